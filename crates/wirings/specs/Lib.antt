@@ -1,1 +1,6 @@
 pub mod Wiring
+pub mod Joined
+pub mod Labels
+pub mod Tally
+pub mod Pieces
+pub mod Loops
