@@ -6,31 +6,31 @@ use native.Mathlib.Omega.{arith}
 use Rattle.wirings.specs.Labels.{moved, Moved, went, stayed, moves, of-both}
 use Rattle.wirings.specs.Tally.{when, when-is, when-not, When, same, apart, whens, tally, tally-same, tally-add, tally-but, tally-two}
 
+-- the pieces of some labels among the first n places: a piece is counted at the place that is its own label
+unfoldable pub pieces : ℕ → (ℕ → ℕ) → ℕ
+pieces n lab = tally (λ x. when (lab x) x 1) n
+
+-- the supplies in the piece with label x
+unfoldable pub stock : ℕ → (ℕ → ℕ) → (ℕ → ℕ) → ℕ → ℕ
+stock n supply lab x = tally (λ y. when (lab y) x (supply y)) n
+
+-- the pieces that hold a supply
+unfoldable pub fedPieces : ℕ → (ℕ → ℕ) → (ℕ → ℕ) → ℕ
+fedPieces n supply lab = tally (λ x. when (lab x) x (min 1 (stock n supply lab x))) n
+
 module _ (n : ℕ) (supply : ℕ → ℕ) where
-  -- the pieces of some labels: a piece is counted at the place that is its own label
-  unfoldable pub pieces : (ℕ → ℕ) → ℕ
-  pieces lab = tally (λ x. when (lab x) x 1) n
-
-  -- the supplies in the piece with label x
-  unfoldable pub stock : (ℕ → ℕ) → ℕ → ℕ
-  stock lab x = tally (λ y. when (lab y) x (supply y)) n
-
-  -- the pieces that hold a supply
-  unfoldable pub fedPieces : (ℕ → ℕ) → ℕ
-  fedPieces lab = tally (λ x. when (lab x) x (min 1 (stock lab x))) n
-
   -- labels that are equal below n count alike
-  pub pieces-same : (f g : ℕ → ℕ) → ((x : ℕ) → f x ≡ g x) → pieces f ≡ pieces g
+  pub pieces-same : (f g : ℕ → ℕ) → ((x : ℕ) → x < n → f x ≡ g x) → pieces n f ≡ pieces n g
   unfolding pieces
-  pieces-same f g h = tally-same _ _ n (λ x l. ap (λ (k : ℕ). when k x 1) (h x))
+  pieces-same f g h = tally-same _ _ n (λ x l. ap (λ (k : ℕ). when k x 1) (h x l))
 
-  pub stock-same : (f g : ℕ → ℕ) → ((x : ℕ) → f x ≡ g x) → (x : ℕ) → stock f x ≡ stock g x
+  pub stock-same : (f g : ℕ → ℕ) → ((x : ℕ) → x < n → f x ≡ g x) → (x : ℕ) → stock n supply f x ≡ stock n supply g x
   unfolding stock
-  stock-same f g h x = tally-same _ _ n (λ y l. ap (λ (k : ℕ). when k x (supply y)) (h y))
+  stock-same f g h x = tally-same _ _ n (λ y l. ap (λ (k : ℕ). when k x (supply y)) (h y l))
 
-  pub fed-same : (f g : ℕ → ℕ) → ((x : ℕ) → f x ≡ g x) → fedPieces f ≡ fedPieces g
+  pub fed-same : (f g : ℕ → ℕ) → ((x : ℕ) → x < n → f x ≡ g x) → fedPieces n supply f ≡ fedPieces n supply g
   unfolding fedPieces
-  fed-same f g h = tally-same _ _ n (λ x l. ap₂ (λ (k s : ℕ). when k x (min 1 s)) (h x) (stock-same f g h x))
+  fed-same f g h = tally-same _ _ n (λ x l. ap₂ (λ (k s : ℕ). when k x (min 1 s)) (h x l) (stock-same f g h x))
 
   -- ---- two pieces are joined
   module _ (lab : ℕ → ℕ) (a b : ℕ) (pa : lab a ≡ a) (pb : lab b ≡ b) (ab : a ≡ b → ⊥) (la : a < n) (lb : b < n) where
@@ -71,7 +71,7 @@ module _ (n : ℕ) (supply : ℕ → ℕ) where
     high-gone : (k : ℕ) → when (joined (max a b)) (max a b) k ≡ 0
     high-gone k = when-not _ _ k (λ e. omega (arith, less, high-goes))
 
-    pub pieces-join : pieces joined + 1 ≡ pieces lab
+    pub pieces-join : pieces n joined + 1 ≡ pieces n lab
     unfolding pieces
     pieces-join =
         omega (
@@ -82,7 +82,7 @@ module _ (n : ℕ) (supply : ℕ → ℕ) where
         )
 
     -- ---- supplies
-    stock-low : stock joined (min a b) ≡ stock lab (min a b) + stock lab (max a b)
+    stock-low : stock n supply joined (min a b) ≡ stock n supply lab (min a b) + stock n supply lab (max a b)
     unfolding stock
     stock-low = tally-same _ _ n (λ y l. point y (moves a b (lab y))) ∙ tally-add _ _ n
       where
@@ -90,7 +90,7 @@ module _ (n : ℕ) (supply : ℕ → ℕ) where
         point y (went p q) = omega (arith, when-is _ (min a b) (supply y) q, when-not (lab y) (min a b) (supply y) (λ e. omega (arith, less)), when-is (lab y) (max a b) (supply y) p)
         point y (stayed p q) = omega (arith, ap (λ (k : ℕ). when k (min a b) (supply y)) q, when-not (lab y) (max a b) (supply y) p)
 
-    stock-kept : (x : ℕ) → (x ≡ min a b → ⊥) → (x ≡ max a b → ⊥) → stock joined x ≡ stock lab x
+    stock-kept : (x : ℕ) → (x ≡ min a b → ⊥) → (x ≡ max a b → ⊥) → stock n supply joined x ≡ stock n supply lab x
     unfolding stock
     stock-kept x nl nh = tally-same _ _ n (λ y l. point y (moves a b (lab y)))
       where
@@ -98,28 +98,28 @@ module _ (n : ℕ) (supply : ℕ → ℕ) where
         point y (went p q) = when-not _ x (supply y) (λ e. nl (sym e ∙ q)) ∙ sym (when-not (lab y) x (supply y) (λ e. nh (sym e ∙ p)))
         point y (stayed p q) = ap (λ (k : ℕ). when k x (supply y)) q
 
-    fed-ends : fedPieces joined + (min 1 (stock lab (min a b)) + min 1 (stock lab (max a b))) ≡ fedPieces lab + min 1 (stock lab (min a b) + stock lab (max a b))
+    fed-ends : fedPieces n supply joined + (min 1 (stock n supply lab (min a b)) + min 1 (stock n supply lab (max a b))) ≡ fedPieces n supply lab + min 1 (stock n supply lab (min a b) + stock n supply lab (max a b))
     unfolding fedPieces
     fed-ends =
         omega (
           arith,
           tally-two f g n (min a b) (max a b) (omega arith) (omega arith) (λ e. omega (arith, less)) (λ x nl nh. ap (λ (s : ℕ). when (joined x) x (min 1 s)) (stock-kept x nl nh) ∙ root-kept x _ nh),
-          when-is (joined (min a b)) (min a b) (min 1 (stock joined (min a b))) low-stays,
+          when-is (joined (min a b)) (min a b) (min 1 (stock n supply joined (min a b))) low-stays,
           stock-low,
-          high-gone (min 1 (stock joined (max a b))),
-          when-is (lab (min a b)) (min a b) (min 1 (stock lab (min a b))) low,
-          when-is (lab (max a b)) (max a b) (min 1 (stock lab (max a b))) high,
+          high-gone (min 1 (stock n supply joined (max a b))),
+          when-is (lab (min a b)) (min a b) (min 1 (stock n supply lab (min a b))) low,
+          when-is (lab (max a b)) (max a b) (min 1 (stock n supply lab (max a b))) high,
         )
       where
         f : ℕ → ℕ
-        f x = when (joined x) x (min 1 (stock joined x))
+        f x = when (joined x) x (min 1 (stock n supply joined x))
 
         g : ℕ → ℕ
-        g x = when (lab x) x (min 1 (stock lab x))
+        g x = when (lab x) x (min 1 (stock n supply lab x))
 
-    pub fed-join : fedPieces joined + (min 1 (stock lab a) + min 1 (stock lab b)) ≡ fedPieces lab + min 1 (stock lab a + stock lab b)
+    pub fed-join : fedPieces n supply joined + (min 1 (stock n supply lab a) + min 1 (stock n supply lab b)) ≡ fedPieces n supply lab + min 1 (stock n supply lab a + stock n supply lab b)
     fed-join = elim (decLt a b)
-        [ yes l ↦ omega (arith, fed-ends, ap (stock lab) (lo l), ap (stock lab) (hi l)) | no l ↦ omega (arith, fed-ends, ap (stock lab) (lo′ l), ap (stock lab) (hi′ l)) ]
+        [ yes l ↦ omega (arith, fed-ends, ap (stock n supply lab) (lo l), ap (stock n supply lab) (hi l)) | no l ↦ omega (arith, fed-ends, ap (stock n supply lab) (lo′ l), ap (stock n supply lab) (hi′ l)) ]
       where
         lo : a < b → min a b ≡ a
         lo l = omega arith
