@@ -4,4 +4,9 @@ pub mod Labels
 pub mod Tally
 pub mod Pieces
 pub mod Chosen
+pub mod Counted
+pub mod Forest
+pub mod Scan
+pub mod Limits
+pub mod Theorem1
 pub mod Loops

@@ -1,0 +1,111 @@
+-- MIN and MAX of the paper, and what a lawful wiring has to do with them.
+use Prim.Native.Nat.{ℕ, zero, suc, min, max, _+_, _-_, _≤_, _<_}
+use mathlib.Core.Bool.{Bool, true, false}
+use mathlib.Core.List.{List, [], _∷_}
+use mathlib.Core.Logic.{_⊎_, inl, inr, ⊎-elim}
+use mathlib.Core.Path.{_≡_, refl, sym, ap, subst, _∙_}
+use borrow.Author.Tests.{eqb-true, eq-eqb, ltb-true, lt-ltb}
+use lib.Dec.{eqb, ltb}
+use native.Mathlib.Decide.{ℕ-discrete, decLt}
+use native.Mathlib.Omega.{arith}
+use Rattle.wirings.specs.Chosen.{chosen, chosen-used, used-chosen}
+use Rattle.wirings.specs.Counted.{Sound, Runs, comps, feds, comps-mono, feds-mono, all-fed}
+use Rattle.wirings.specs.Joined.{joined-mono}
+use Rattle.wirings.specs.Labels.{In, label, root-smallest, smallest-root}
+use Rattle.wirings.specs.Pieces.{pieces}
+use Rattle.wirings.specs.Tally.{when, When, same, apart, whens, tally}
+use Rattle.wirings.specs.Wiring.{Order, Wiring, Used, Joined, Smallest, Counts, none, one, skip, Segments, Loop, Fed, Lawful}
+
+-- ---- the fixed runs, and the unstruck ones
+abbrev pub fixedRuns : Order → List ℕ
+fixedRuns o = chosen (λ r. eqb (o .state r) 2) (o .m)
+
+abbrev pub unstruckRuns : Order → List ℕ
+unstruckRuns o = chosen (λ r. ltb 0 (o .state r)) (o .m)
+
+-- MIN: the components over unstruck runs. MAX: the components over fixed runs that hold a supply
+abbrev pub least : Order → ℕ
+least o = comps o (unstruckRuns o)
+
+abbrev pub most : Order → ℕ
+most o = feds o (fixedRuns o)
+
+module _ (o : Order) where
+  pub fixed-in : (r : ℕ) → r < o .m → o .state r ≡ 2 → In (fixedRuns o) r
+  fixed-in r l e = used-chosen (λ j. eqb (o .state j) 2) (o .m) r l (eq-eqb (o .state r) 2 e)
+
+  pub in-fixed : (r : ℕ) → In (fixedRuns o) r → (r < o .m) × (o .state r ≡ 2)
+  in-fixed r h = let q = chosen-used (λ j. eqb (o .state j) 2) (o .m) r h in (q .0, eqb-true (o .state r) 2 (q .1))
+
+  pub unstruck-in : (r : ℕ) → r < o .m → 0 < o .state r → In (unstruckRuns o) r
+  unstruck-in r l e = used-chosen (λ j. ltb 0 (o .state j)) (o .m) r l (lt-ltb 0 (o .state r) e)
+
+  pub in-unstruck : (r : ℕ) → In (unstruckRuns o) r → (r < o .m) × (0 < o .state r)
+  in-unstruck r h = let q = chosen-used (λ j. ltb 0 (o .state j)) (o .m) r h in (q .0, ltb-true 0 (o .state r) (q .1))
+
+-- ---- a count in words has one value, and labels compute it
+pub counts-one : {P : ℕ → Type 0} {n j k : ℕ} → Counts P n j → Counts P n k → j ≡ k
+counts-one none none = refl
+counts-one (one c p) (one d q) = ap suc (counts-one c d)
+counts-one (one c p) (skip d q) = absurd (q p)
+counts-one (skip c p) (one d q) = absurd (p q)
+counts-one (skip c p) (skip d q) = counts-one c d
+
+pub counts-same : {P Q : ℕ → Type 0} {n k : ℕ} → ((x : ℕ) → P x → Q x) → ((x : ℕ) → Q x → P x) → Counts P n k → Counts Q n k
+counts-same f g none = none
+counts-same f g (one {n = n} c p) = one (counts-same f g c) (f n p)
+counts-same f g (skip {n = n} c p) = skip (counts-same f g c) (λ q. p (g n q))
+
+pub counts-pieces : (o : Order) (L : List ℕ) (n : ℕ) → Counts (Smallest o (In L)) n (pieces n (label o L))
+unfolding pieces tally
+counts-pieces o L zero = none
+counts-pieces o L (suc n) = go (whens (label o L n) n 1) (counts-pieces o L n)
+  where
+    go : {z k : ℕ} → When (label o L n) n 1 z → Counts (Smallest o (In L)) n k → Counts (Smallest o (In L)) (suc n) (z + k)
+    go {z} {k} (same e f) c = subst (Counts (Smallest o (In L)) (suc n)) (omega arith) (one c (root-smallest o L e))
+    go {z} {k} (apart e f) c = subst (Counts (Smallest o (In L)) (suc n)) (omega arith) (skip c (λ s. e (smallest-root o L n s)))
+
+-- ---- a wiring and the list of the runs that it uses
+abbrev pub usedRuns : Order → Wiring → List ℕ
+usedRuns o w = chosen w (o .m)
+
+module _ (o : Order) (w : Wiring) where
+  pub in-used : (r : ℕ) → In (usedRuns o w) r → Used o w r
+  in-used r h = chosen-used w (o .m) r h
+
+  pub used-in : (r : ℕ) → Used o w r → In (usedRuns o w) r
+  used-in r h = used-chosen w (o .m) r (h .0) (h .1)
+
+  pub smallest-used : (x : ℕ) → Smallest o (In (usedRuns o w)) x → Smallest o (Used o w) x
+  smallest-used x s y l p = s y l (joined-mono used-in p)
+
+  pub used-smallest : (x : ℕ) → Smallest o (Used o w) x → Smallest o (In (usedRuns o w)) x
+  used-smallest x s y l p = s y l (joined-mono in-used p)
+
+  -- every wiring has a number of segments
+  pub segments : Segments o w (comps o (usedRuns o w))
+  segments = counts-same smallest-used used-smallest (counts-pieces o (usedRuns o w) (o .n))
+
+  pub segments-are : {k : ℕ} → Segments o w k → k ≡ comps o (usedRuns o w)
+  segments-are c = counts-one c segments
+
+-- ---- what a lawful wiring has: the fixed runs, unstruck ones alone, and a count from MIN to MAX
+module _ (o : Order) (ok : Sound o) (w : Wiring) (h : Lawful o w) where
+  pub lawful-more : (r : ℕ) → In (fixedRuns o) r → In (usedRuns o w) r
+  lawful-more r k = let q = in-fixed o r k in used-in o w r (q .0, h .fixed r (q .0) (q .1))
+
+  pub lawful-less : (r : ℕ) → In (usedRuns o w) r → In (unstruckRuns o) r
+  lawful-less r k = let q = in-used o w r k in elim (decLt 0 (o .state r)) [ yes l ↦ unstruck-in o r (q .0) l | no l ↦ absurd (h .struck r (q .0) (omega arith) (q .1)) ]
+
+  pub lawful-fed : (x : ℕ) → x < o .n → Fed o (In (usedRuns o w)) x
+  lawful-fed x l = let f = h .fed x l in record { at = f .at; place = f .place; supplied = f .supplied; joined = joined-mono (used-in o w) (f .joined) }
+
+  pub lawful-count : h .count ≡ comps o (usedRuns o w)
+  lawful-count = segments-are o w (h .counted)
+
+  pub lawful-least : least o ≤ h .count
+  lawful-least = omega (arith, lawful-count, comps-mono o ok (usedRuns o w) (unstruckRuns o) (λ r k. in-unstruck o r k .0) lawful-less)
+
+  pub lawful-most : h .count ≤ most o
+  lawful-most =
+      omega (arith, lawful-count, all-fed o ok (usedRuns o w) lawful-fed, feds-mono o ok (fixedRuns o) (usedRuns o w) (λ r k. in-used o w r k .0) lawful-more)
