@@ -9,4 +9,8 @@ pub mod Forest
 pub mod Scan
 pub mod Limits
 pub mod Theorem1
+pub mod Alike
+pub mod Confirmed
+pub mod Amended
+pub mod Marks
 pub mod Loops

@@ -115,7 +115,7 @@ module _ (o : Order) (ok : Sound o) (meets : Meets o) where
   in-G : (x : ℕ) → x < o .n → Fed o (In (unstruckRuns o)) x
   in-G x l = fed-mono (λ r h. unstruck-in o r (h .0) (h .1)) (meets .fed x l)
 
-  forest : Forest o (fixedRuns o)
+  pub forest : Forest o (fixedRuns o)
   forest = fixed-forest o (o .m) (meets .open′)
 
   -- MIN is at most MAX
