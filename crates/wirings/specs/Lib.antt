@@ -13,4 +13,5 @@ pub mod Alike
 pub mod Confirmed
 pub mod Amended
 pub mod Marks
+pub mod First
 pub mod Loops

@@ -79,25 +79,40 @@ loop-mono f c = record {
   runs-differ = c .runs-differ;
 }
 
+-- a wiring uses exactly the runs of a list
+pub record Names (o : Order) (w : Wiring) (L : List ℕ) : Type 0 where
+  pub only : (r : ℕ) → r < o .m → w r ≡ true → In L r
+  pub all : (r : ℕ) → In L r → w r ≡ true
+
+pub member-names : (o : Order) (L : List ℕ) → Names o (member L) L
+member-names o L = record { only = λ r l. member-in L r; all = in-member L }
+
+module _ (o : Order) (w : Wiring) (L : List ℕ) (runs : Runs o L) (names : Names o w L) where
+  pub to-used : (r : ℕ) → In L r → Used o w r
+  to-used r h = (runs r h, names .all r h)
+
+  pub from-used : (r : ℕ) → Used o w r → In L r
+  from-used r h = names .only r (h .0) (h .1)
+
+  pub comps-named : comps o (usedRuns o w) ≡ comps o L
+  comps-named = comps-ext o (usedRuns o w) L (λ r h. from-used r (in-used o w r h)) (λ r h. used-in o w r (to-used r h))
+
 -- ---- a forest of runs between the fixed and the unstruck ones that feeds every place, with an allowed count, is a lawful wiring
-pub lawful-list : (o : Order) (ok : Sound o) (L : List ℕ) → Forest o L → ((r : ℕ) → In (fixedRuns o) r → In L r) → ((r : ℕ) → In L r → In (unstruckRuns o) r)
-    → ((x : ℕ) → x < o .n → Fed o (In L) x) → o .low ≤ comps o L → comps o L ≤ o .high → Lawful o (member L)
-lawful-list o ok L forest more less fed low high = record {
-  fixed = λ r l e. in-member L r (more r (fixed-in o r l e));
-  struck = λ r l e h. absurd (omega (arith, in-unstruck o r (less r (member-in L r h)) .1));
-  no-loop = λ c. forest-no-loop o ok L runs forest (loop-mono (λ r h. member-in L r (h .1)) c);
-  fed = λ x l. fed-mono (λ r h. (runs r h, in-member L r h)) (fed x l);
-  count = comps o (usedRuns o (member L));
-  counted = segments o (member L);
-  enough = subst (λ (k : ℕ). o .low ≤ k) same low;
-  few = subst (λ (k : ℕ). k ≤ o .high) same high;
+pub lawful-list : (o : Order) (ok : Sound o) (L : List ℕ) (w : Wiring) → Names o w L → Forest o L → ((r : ℕ) → In (fixedRuns o) r → In L r) → ((r : ℕ) → In L r → In (unstruckRuns o) r)
+    → ((x : ℕ) → x < o .n → Fed o (In L) x) → o .low ≤ comps o L → comps o L ≤ o .high → Lawful o w
+lawful-list o ok L w names forest more less fed low high = record {
+  fixed = λ r l e. names .all r (more r (fixed-in o r l e));
+  struck = λ r l e h. absurd (omega (arith, in-unstruck o r (less r (names .only r l h)) .1));
+  no-loop = λ c. forest-no-loop o ok L runs forest (loop-mono (from-used o w L runs names) c);
+  fed = λ x l. fed-mono (to-used o w L runs names) (fed x l);
+  count = comps o (usedRuns o w);
+  counted = segments o w;
+  enough = subst (λ (k : ℕ). o .low ≤ k) (sym (comps-named o w L runs names)) low;
+  few = subst (λ (k : ℕ). k ≤ o .high) (sym (comps-named o w L runs names)) high;
 }
   where
     runs : Runs o L
     runs r h = in-unstruck o r (less r h) .0
-
-    same : comps o L ≡ comps o (usedRuns o (member L))
-    same = comps-ext o L (usedRuns o (member L)) (λ r h. used-in o (member L) r (runs r h, in-member L r h)) (λ r h. member-in L r (in-used o (member L) r h .1))
 
 -- ---- the fixed runs, where each opens, are a forest
 forest-step : (o : Order) (k : ℕ) (b : Bool) → eqb (o .state k) 2 ≡ b → Opens o k → Forest o (chosen (λ r. eqb (o .state r) 2) k) → Forest o (taken b k (chosen (λ r. eqb (o .state r) 2) k))
@@ -199,16 +214,22 @@ module _ (o : Order) (ok : Sound o) (meets : Meets o) (k : ℕ) (lk : least o �
 pub listed : (o : Order) → Covers o (λ i. i)
 listed o = record { all = λ j l. l; every = λ r l e. (r, l, refl) }
 
+-- the wiring that names what a scan for an allowed count took is lawful, and has that count
+module _ (o : Order) (ok : Sound o) (k : ℕ) (low : o .low ≤ k) (high : k ≤ o .high) (s : Scan) (e : Ends o k s) (w : Wiring) (names : Names o w (s .taken)) where
+  pub ends-lawful : Lawful o w
+  ends-lawful =
+      lawful-list o ok (s .taken) w names (e .forest) (e .more) (e .less) (e .fed) (subst (λ (x : ℕ). o .low ≤ x) (sym (e .count)) low) (subst (λ (x : ℕ). x ≤ o .high) (sym (e .count)) high)
+
+  pub ends-segments : Segments o w k
+  ends-segments = subst (Segments o w) (comps-named o w (s .taken) (λ r h. in-unstruck o r (e .less r h) .0) names ∙ e .count) (segments o w)
+
 -- every count from MIN to MAX that line four allows is that of a lawful wiring
 pub of-count : (o : Order) → Sound o → Meets o → (k : ℕ) → least o ≤ k → k ≤ most o → o .low ≤ k → k ≤ o .high → (w : Wiring) × Lawful o w × Segments o w k
 of-count o ok meets k lk km low high =
     let (s, g) = goes o (λ i. i) (start o k) (o .m) in
     let e = scan-ends o ok meets k lk km (λ i. i) (listed o) g in
-    let h = lawful-list o ok (s .taken) (e .forest) (e .more) (e .less) (e .fed) (subst (λ (x : ℕ). o .low ≤ x) (sym (e .count)) low) (subst (λ (x : ℕ). x ≤ o .high) (sym (e .count)) high) in
-    (member (s .taken), h, subst (Segments o (member (s .taken))) (sym (same s e) ∙ e .count) (segments o (member (s .taken))))
-  where
-    same : (s : Scan) → Ends o k s → comps o (s .taken) ≡ comps o (usedRuns o (member (s .taken)))
-    same s e = comps-ext o (s .taken) (usedRuns o (member (s .taken))) (λ r h. used-in o (member (s .taken)) r (in-unstruck o r (e .less r h) .0, in-member (s .taken) r h)) (λ r h. member-in (s .taken) r (in-used o (member (s .taken)) r h .1))
+    let names = member-names o (s .taken) in
+    (member (s .taken), ends-lawful o ok k low high s e (member (s .taken)) names, ends-segments o ok k low high s e (member (s .taken)) names)
 
 pub exists : (o : Order) → Sound o → o .low ≤ o .high → Meets o → (w : Wiring) × Lawful o w
 exists o ok line meets = let (w, h, _) = of-count o ok meets (max (o .low) (least o)) (omega arith) (omega (arith, least-most o ok meets, meets .enough)) (omega arith) (omega (arith, meets .few)) in (w, h)
