@@ -14,4 +14,5 @@ pub mod Confirmed
 pub mod Amended
 pub mod Marks
 pub mod First
+pub mod OfForm
 pub mod Loops

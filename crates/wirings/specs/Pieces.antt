@@ -4,7 +4,7 @@ use mathlib.Core.Path.{_≡_, refl, sym, ap, ap₂, subst, _∙_}
 use native.Mathlib.Decide.{decLt}
 use native.Mathlib.Omega.{arith}
 use Rattle.wirings.specs.Labels.{moved, Moved, went, stayed, moves, of-both}
-use Rattle.wirings.specs.Tally.{when, when-is, when-not, When, same, apart, whens, tally, tally-same, tally-add, tally-but, tally-two}
+use Rattle.wirings.specs.Tally.{when, when-is, when-not, When, same, apart, whens, tally, tally-same, tally-add, tally-but, tally-two, zeros}
 
 -- the pieces of some labels among the first n places: a piece is counted at the place that is its own label
 unfoldable pub pieces : ℕ → (ℕ → ℕ) → ℕ
@@ -82,7 +82,7 @@ module _ (n : ℕ) (supply : ℕ → ℕ) where
         )
 
     -- ---- supplies
-    stock-low : stock n supply joined (min a b) ≡ stock n supply lab (min a b) + stock n supply lab (max a b)
+    pub stock-low : stock n supply joined (min a b) ≡ stock n supply lab (min a b) + stock n supply lab (max a b)
     unfolding stock
     stock-low = tally-same _ _ n (λ y l. point y (moves a b (lab y))) ∙ tally-add _ _ n
       where
@@ -90,13 +90,21 @@ module _ (n : ℕ) (supply : ℕ → ℕ) where
         point y (went p q) = omega (arith, when-is _ (min a b) (supply y) q, when-not (lab y) (min a b) (supply y) (λ e. omega (arith, less)), when-is (lab y) (max a b) (supply y) p)
         point y (stayed p q) = omega (arith, ap (λ (k : ℕ). when k (min a b) (supply y)) q, when-not (lab y) (max a b) (supply y) p)
 
-    stock-kept : (x : ℕ) → (x ≡ min a b → ⊥) → (x ≡ max a b → ⊥) → stock n supply joined x ≡ stock n supply lab x
+    pub stock-kept : (x : ℕ) → (x ≡ min a b → ⊥) → (x ≡ max a b → ⊥) → stock n supply joined x ≡ stock n supply lab x
     unfolding stock
     stock-kept x nl nh = tally-same _ _ n (λ y l. point y (moves a b (lab y)))
       where
         point : (y : ℕ) {z : ℕ} → Moved a b (lab y) z → when z x (supply y) ≡ when (lab y) x (supply y)
         point y (went p q) = when-not _ x (supply y) (λ e. nl (sym e ∙ q)) ∙ sym (when-not (lab y) x (supply y) (λ e. nh (sym e ∙ p)))
         point y (stayed p q) = ap (λ (k : ℕ). when k x (supply y)) q
+
+    pub stock-gone : stock n supply joined (max a b) ≡ 0
+    unfolding stock
+    stock-gone = tally-same _ (λ y. 0) n (λ y l. point y (moves a b (lab y))) ∙ zeros n
+      where
+        point : (y : ℕ) {z : ℕ} → Moved a b (lab y) z → when z (max a b) (supply y) ≡ 0
+        point y (went p q) = when-not _ (max a b) (supply y) (λ e. omega (arith, less))
+        point y (stayed p q) = when-not _ (max a b) (supply y) (λ e. p (sym q ∙ e))
 
     fed-ends : fedPieces n supply joined + (min 1 (stock n supply lab (min a b)) + min 1 (stock n supply lab (max a b))) ≡ fedPieces n supply lab + min 1 (stock n supply lab (min a b) + stock n supply lab (max a b))
     unfolding fedPieces

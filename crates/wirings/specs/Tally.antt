@@ -32,6 +32,11 @@ unfolding tally
 tally-same f g zero h = refl
 tally-same f g (suc n) h = ap₂ (λ (a b : ℕ). a + b) (h n (omega arith)) (tally-same f g n (λ x l. h x (omega arith)))
 
+pub zeros : (n : ℕ) → tally (λ _. 0) n ≡ 0
+unfolding tally
+zeros zero = refl
+zeros (suc n) = omega (arith, zeros n)
+
 pub tally-le : (f g : ℕ → ℕ) (n : ℕ) → ((x : ℕ) → x < n → f x ≤ g x) → tally f n ≤ tally g n
 unfolding tally
 tally-le f g zero h = omega arith
