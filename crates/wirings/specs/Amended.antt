@@ -33,7 +33,7 @@ pub at : (o : Order) (e s r : ℕ) → At o e s r (marked e s o .state r)
 at o e s r = elim (ℕ-discrete r e) [ yes p ↦ same p (put-here e s (o .state) r p) | no n ↦ other n (put-there e s (o .state) r n) ]
 
 pub marked-sound : (o : Order) (e s : ℕ) → s ≤ 2 → Sound o → Sound (marked e s o)
-marked-sound o e s l ok = record { up = ok .up; inside = ok .inside; fresh = ok .fresh; bit = ok .bit; mark = λ r. go (at o e s r) (ok .mark r) }
+marked-sound o e s l ok = record { up = ok .up; inside = ok .inside; fresh = ok .fresh; bit = ok .bit; mark = λ r l. go (at o e s r) (ok .mark r l) }
   where
     go : {r state : ℕ} → At o e s r state → o .state r ≤ 2 → state ≤ 2
     go (same p q) b = omega arith

@@ -18,7 +18,7 @@ pub record Sound (o : Order) : Type 0 where
   pub inside : (r : ℕ) → r < o .m → o .v r < o .n
   pub fresh : (r j : ℕ) → r < o .m → j < o .m → o .u r ≡ o .u j → o .v r ≡ o .v j → r ≡ j
   pub bit : (x : ℕ) → o .supply x ≤ 1
-  pub mark : (r : ℕ) → o .state r ≤ 2
+  pub mark : (r : ℕ) → r < o .m → o .state r ≤ 2
 
 -- a list of runs of the order
 abbrev pub Runs : Order → List ℕ → Type 0

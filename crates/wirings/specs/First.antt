@@ -71,7 +71,7 @@ module _ (o : Order) (ok : Sound o) (line : o .low ≤ o .high) (meets : Meets o
       possible : o .state i ≡ 1
       possible = elim (ℕ-discrete (o .state i) 1) [
         | yes e ↦ e
-        | no n ↦ elim (ℕ-discrete (o .state i) 0) [ yes e ↦ absurd (h .struck i l e used) | no k ↦ absurd (unused (lawful .fixed i l (omega (arith, ok .mark i)))) ]
+        | no n ↦ elim (ℕ-discrete (o .state i) 0) [ yes e ↦ absurd (h .struck i l e used) | no k ↦ absurd (unused (lawful .fixed i l (omega (arith, ok .mark i l)))) ]
       ]
 
       seen : Looked o (start o (top o)) i s

@@ -15,4 +15,5 @@ pub mod Amended
 pub mod Marks
 pub mod First
 pub mod OfForm
+pub mod Same
 pub mod Loops

@@ -56,6 +56,16 @@ counts-same f g none = none
 counts-same f g (one {n = n} c p) = one (counts-same f g c) (f n p)
 counts-same f g (skip {n = n} c p) = skip (counts-same f g c) (λ q. p (g n q))
 
+pub counts-alike : {P Q : ℕ → Type 0} {n k : ℕ} → ((x : ℕ) → x < n → P x → Q x) → ((x : ℕ) → x < n → Q x → P x) → Counts P n k → Counts Q n k
+counts-alike f g none = none
+counts-alike f g (one {n = n} c p) = one (counts-alike (λ x l. f x (omega arith)) (λ x l. g x (omega arith)) c) (f n (omega arith) p)
+counts-alike f g (skip {n = n} c p) = skip (counts-alike (λ x l. f x (omega arith)) (λ x l. g x (omega arith)) c) (λ q. p (g n (omega arith) q))
+
+pub counts-none : {P : ℕ → Type 0} {n k : ℕ} → ((x : ℕ) → x < n → P x → ⊥) → Counts P n k → k ≡ 0
+counts-none f none = refl
+counts-none f (one {n = n} c p) = absurd (f n (omega arith) p)
+counts-none f (skip c p) = counts-none (λ x l. f x (omega arith)) c
+
 pub counts-pieces : (o : Order) (L : List ℕ) (n : ℕ) → Counts (Smallest o (In L)) n (pieces n (label o L))
 unfolding pieces tally
 counts-pieces o L zero = none

@@ -38,10 +38,7 @@ module _ (f : Fields) (sound : Clears (soundRows sizes f)) where
       | no l ↦ elim (decLt j r) [ yes k ↦ absurd (new .before r lr j k (sym p) (sym q)) | no k ↦ omega arith ]
     ];
     bit = λ x. elim (decLt x (length (f .places))) [ yes l ↦ sound .1 .0 .before x l | no l ↦ omega (arith, List·getD-eq-default (f .places) 0 {n = x} (omega arith)) ];
-    mark = λ r. elim (decLt r (runsIn sizes (f .runs))) [
-      | yes l ↦ good .before r l .state
-      | no l ↦ omega (arith, List·getD-eq-default (f .runs) 0 {n = 5 * r + 4} (omega (arith, whole-runs sizes (omega arith) f sound)))
-    ];
+    mark = λ r l. good .before r l .state;
   }
     where
       good : Clear (each 5 (runsIn sizes (f .runs)) (Good sizes (length (f .places)) (f .runs)))

@@ -170,7 +170,7 @@ module _ (o : Order) (ok : Sound o) (meets : Meets o) (k : ℕ) (lk : least o �
   seen r h = let q = in-unstruck o r h in
       elim (ℕ-discrete (o .state r) 1) [
         | yes e ↦ let (j, l, p) = covers .every r (q .0) e in subst (Passed o s) p (held .passed j l (subst (λ (x : ℕ). o .state x ≡ 1) (sym p) e))
-        | no n ↦ inl (held .more r (fixed-in o r (q .0) (omega (arith, ok .mark r))))
+        | no n ↦ inl (held .more r (fixed-in o r (q .0) (omega (arith, ok .mark r (q .0)))))
       ]
 
   -- a place next to a supplied one is supplied
