@@ -93,6 +93,7 @@ module _ {o p : Order} (a : Agree o p) where
     where
       ours : (r : ℕ) → Used o w r → Used p b r
       ours r h = (subst (λ (k : ℕ). r < k) (a .alike .m) (h .0), sym (same r (h .0)) ∙ h .1)
+
       theirs : (r : ℕ) → Used p b r → Used o w r
       theirs r h = let l = subst (λ (k : ℕ). r < k) (sym (a .alike .m)) (h .0) in (l, same r l ∙ h .1)
 
@@ -107,14 +108,14 @@ pub record Equal (o : Order) (state state′ : ℕ → ℕ) (low low′ high hig
 module _ (o p : Order) (ok : Sound o) (ok′ : Sound p) (a : Agree o p) where
   pub same-confirmation : {state state′ : ℕ → ℕ} {low low′ high high′ : ℕ} {w w′ : Wiring} {segment segment′ : ℕ → ℕ} {s s′ t t′ : ℕ}
       → Confirmed o state low high w segment s t → Confirmed p state′ low′ high′ w′ segment′ s′ t′ → Equal o state state′ low low′ high high′ w w′ segment segment′
-  same-confirmation {state} {state′} {w = w} {w′ = w′} c d = record
-    { states = λ r l. let k = subst (λ (z : ℕ). r < z) (a .alike .m) l in
-      marked-one a w (c .first .lawful) (by-wirings o r (state r) l (ok .mark r l) (c .marks r l)) (by-wirings p r (state′ r) k (ok′ .mark r k) (d .marks r k))
-    ; lows = lowest-one a (c .lowest) (d .lowest)
-    ; highs = highest-one a (c .highest) (d .highest)
-    ; wirings = first-upto a w w′ (c .first) (d .first) (o .m) (omega arith)
-    ; segments = λ x l. segment-one a w w′ (first-upto a w w′ (c .first) (d .first) (o .m) (omega arith)) (c .segments x l) (d .segments x (subst (λ (z : ℕ). x < z) (a .alike .n) l))
-    }
+  same-confirmation {state} {state′} {w = w} {w′ = w′} c d = record {
+    states = λ r l. let k = subst (λ (z : ℕ). r < z) (a .alike .m) l in
+        marked-one a w (c .first .lawful) (by-wirings o r (state r) l (ok .mark r l) (c .marks r l)) (by-wirings p r (state′ r) k (ok′ .mark r k) (d .marks r k));
+    lows = lowest-one a (c .lowest) (d .lowest);
+    highs = highest-one a (c .highest) (d .highest);
+    wirings = first-upto a w w′ (c .first) (d .first) (o .m) (omega arith);
+    segments = λ x l. segment-one a w w′ (first-upto a w w′ (c .first) (d .first) (o .m) (omega arith)) (c .segments x l) (d .segments x (subst (λ (z : ℕ). x < z) (a .alike .n) l));
+  }
 
 -- ---- confirming keeps the wirings
 abbrev pub confirmed : Order → (ℕ → ℕ) → ℕ → ℕ → Order
@@ -134,33 +135,37 @@ module _ (o : Order) (ok : Sound o) {state : ℕ → ℕ} {low high : ℕ} {w : 
       two (never n e) f = absurd (omega arith)
       two (always n e) f = n
       two (either x y e) f = absurd (omega arith)
+
       zero′ : {r x : ℕ} → Marked o r x → x ≡ 0 → Never o r
       zero′ (never n e) f = n
       zero′ (always n e) f = absurd (omega arith)
       zero′ (either x y e) f = absurd (omega arith)
+
       to : (b : Wiring) → Lawful o b → Lawful (confirmed o state low high) b
       to b h = lawful-as same-ends b h (λ r l e. two (mark r l) e b h) (λ r l e. zero′ (mark r l) e b h) (c .lowest .all b h) (c .highest .all b h)
+
       copy : {r x : ℕ} → Mark o r x → (o .state r ≡ 1 → ⊥) → x ≡ o .state r
       copy (kept n e) k = e
       copy (struck p n e) k = absurd (k p)
       copy (pinned p n e) k = absurd (k p)
       copy (stays p x y e) k = absurd (k p)
+
       from : (b : Wiring) → Lawful (confirmed o state low high) b → Lawful o b
       from b h = lawful-as (alike-sym same-ends) b h
-        (λ r l e. h .fixed r l (copy (c .marks r l) (λ q. omega arith) ∙ e))
-        (λ r l e. h .struck r l (copy (c .marks r l) (λ q. omega arith) ∙ e))
-        (omega (arith, h .enough, c .lowest .lawful .enough, counts-one (c .lowest .counted) (c .lowest .lawful .counted)))
-        (omega (arith, h .few, c .highest .lawful .few, counts-one (c .highest .counted) (c .highest .lawful .counted)))
+          (λ r l e. h .fixed r l (copy (c .marks r l) (λ q. omega arith) ∙ e))
+          (λ r l e. h .struck r l (copy (c .marks r l) (λ q. omega arith) ∙ e))
+          (omega (arith, h .enough, c .lowest .lawful .enough, counts-one (c .lowest .counted) (c .lowest .lawful .counted)))
+          (omega (arith, h .few, c .highest .lawful .few, counts-one (c .highest .counted) (c .highest .lawful .counted)))
 
 -- ---- two confirmations of one form are equal, their counts too
 pub confirmed-one : (o : Order) → Sound o → {state state′ : ℕ → ℕ} {low low′ high high′ : ℕ} {w w′ : Wiring} {segment segment′ : ℕ → ℕ} {s s′ t t′ : ℕ}
     → Confirmed o state low high w segment s t → Confirmed o state′ low′ high′ w′ segment′ s′ t′
     → Equal o state state′ low low′ high high′ w w′ segment segment′ × (s ≡ s′) × (t ≡ t′)
 confirmed-one o ok {state} {state′} c d =
-    let e = same-confirmation o o ok ok (agree-self o) c d in
-    ( e
-    , counts-one (counts-alike (λ r l h. (h .0, sym (e .states r l) ∙ h .1)) (λ r l h. (h .0, e .states r l ∙ h .1)) (c .struck-counted)) (d .struck-counted)
-    , counts-one (counts-alike (λ r l h. (h .0, sym (e .states r l) ∙ h .1)) (λ r l h. (h .0, e .states r l ∙ h .1)) (c .pinned-counted)) (d .pinned-counted)
+    let e = same-confirmation o o ok ok (agree-self o) c d in (
+      e,
+      counts-one (counts-alike (λ r l h. (h .0, sym (e .states r l) ∙ h .1)) (λ r l h. (h .0, e .states r l ∙ h .1)) (c .struck-counted)) (d .struck-counted),
+      counts-one (counts-alike (λ r l h. (h .0, sym (e .states r l) ∙ h .1)) (λ r l h. (h .0, e .states r l ∙ h .1)) (c .pinned-counted)) (d .pinned-counted),
     )
 
 -- ---- confirming a confirmed form changes nothing, and counts nothing
@@ -176,8 +181,8 @@ module _ (o : Order) (ok : Sound o) {state : ℕ → ℕ} {low high : ℕ} {w : 
   pub again : {state′ : ℕ → ℕ} {low′ high′ : ℕ} {w′ : Wiring} {segment′ : ℕ → ℕ} {s′ t′ : ℕ} → Confirmed (confirmed o state low high) state′ low′ high′ w′ segment′ s′ t′
       → Equal o state state′ low low′ high high′ w w′ segment segment′ × (s′ ≡ 0) × (t′ ≡ 0)
   again {state′} d =
-      let e = same-confirmation o (confirmed o state low high) ok confirmed-sound (keeps o ok c) c d in
-      ( e
-      , counts-none (λ r l h. omega (arith, h .0, h .1, e .states r l)) (d .struck-counted)
-      , counts-none (λ r l h. omega (arith, h .0, h .1, e .states r l)) (d .pinned-counted)
+      let e = same-confirmation o (confirmed o state low high) ok confirmed-sound (keeps o ok c) c d in (
+        e,
+        counts-none (λ r l h. omega (arith, h .0, h .1, e .states r l)) (d .struck-counted),
+        counts-none (λ r l h. omega (arith, h .0, h .1, e .states r l)) (d .pinned-counted),
       )
