@@ -49,6 +49,10 @@ found-here g h = record { within = g .within; before = g .before; found = λ _. 
 pub found-none : {good : ℕ → Type 0} {n k : ℕ} → Going good n k → n ≤ k → First good n k
 found-none g l = record { within = g .within; before = g .before; found = λ m. absurd (omega arith) }
 
+-- ---- the same search, said otherwise
+pub first-alike : {P Q : ℕ → Type 0} {n k : ℕ} → ((j : ℕ) → j < n → P j → Q j) → ((j : ℕ) → j < n → Q j → P j) → First P n k → First Q n k
+first-alike {k = k} f g h = record { within = h .within; before = λ j l. f j (omega (arith, h .within)) (h .before j l); found = λ l q. h .found l (g k l q) }
+
 -- ---- a search has one result
 not-before : {good : ℕ → Type 0} {n a b : ℕ} → First good n a → First good n b → a < b → ⊥
 not-before {a = a} p q l = p .found (omega (arith, q .within)) (q .before a l)

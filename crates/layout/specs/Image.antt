@@ -1,15 +1,15 @@
 -- The image of sound fields, part by part: how long it is, and that its parts are the fields.
-use Prim.Native.Nat.{ℕ, zero, suc, _+_, _*_, _%_, _/_, _≤_, _<_}
+use Prim.Native.Nat.{ℕ, zero, suc, _+_, _-_, _*_, _%_, _/_, _≤_, _<_}
 use mathlib.Core.List.{List, [], _∷_, _++_, append-assoc, append-nil}
 use mathlib.Core.Path.{_≡_, refl, sym, ap, ap₂, subst₂, subst₃, _∙_}
-use lib.ListN.{length, getD, take, drop, length-append, take-append-drop, drop-of-length-le}
-use lib.Seq.{take-at, drop-at, drop-cons, drop-drop, drop-length, getD-append-add}
+use lib.ListN.{length, getD, take, drop, length-append, take-append-drop, length-drop, drop-of-length-le}
+use lib.Seq.{take-at, take-all, take-length, drop-at, drop-cons, drop-drop, drop-length, drop-append-add, getD-append-add}
 use native.Mathlib.Nat.{le-refl}
 use native.Mathlib.Numerals.{add-one}
 use native.Mathlib.Omega.{arith}
 use Rattle.answer.specs.Laws.{clear, fact}
 use Rattle.answer.specs.Table.{Clears}
-use Rattle.layout.specs.Layout.{Sizes, sizes, word, bytes, part, runsAt, lineAt, runsIn, Fields, lengthFor, contents, lineFour, image}
+use Rattle.layout.specs.Layout.{Sizes, sizes, word, bytes, part, runsAt, lineAt, runsIn, Fields, lengthFor, contents, lineFour, image, over, overAt}
 use Rattle.layout.specs.Laws.{places-length, runs-count, whole-runs}
 use Rattle.layout.specs.Rows.{Numbers, Listed, Laid, fieldRows, soundRows, fieldsOf, readRows}
 
@@ -174,3 +174,30 @@ module _ (s : List ℕ) (small : Bytes s) (sound : Clears (readRows sizes s)) wh
       from-line =
           words-at s small (f .low ∷ f .high ∷ []) (lineAt sizes n m) (length s) (sym (laid .total)) (le-refl (length s)) (refl, (refl, tt))
           ∙ ap (λ (t : List ℕ). lineFour (f .low) (f .high) ++ t) (drop-length s)
+
+-- ---- writing one part after the other
+-- a copy to the part of a buffer from at on
+pub put-is : (at : ℕ) (src xs ys : List ℕ) → at + length src ≤ length xs
+    → ys ≡ take (length src) src ++ drop (length src) (take (length xs - at) (drop at xs))
+    → take at xs ++ (ys ++ drop (length xs - at) (drop at xs)) ≡ overAt at src xs
+put-is at src xs ys fits e =
+    ap (λ (l : List ℕ). take at xs ++ l)
+    (ap₂ (λ (a b : List ℕ). a ++ b)
+    (e ∙ ap₂ (λ (a b : List ℕ). a ++ drop (length src) b) (take-length src) (take-all (length xs - at) (drop at xs) end))
+    (drop-of-length-le (drop at xs) end)
+    ∙ append-nil (src ++ drop (length src) (drop at xs))
+    ∙ ap (λ (l : List ℕ). src ++ l) (drop-drop (length src) at xs))
+  where
+    end : length (drop at xs) ≤ length xs - at
+    end = simp length-drop (omega arith)
+
+-- what is written next follows what was written
+pub over-more : (p q before : List ℕ) (at : ℕ) → length p ≡ at → overAt at q (over p before) ≡ over (p ++ q) before
+over-more p q before at e =
+    ap₂ (λ (a b : List ℕ). a ++ (q ++ b))
+    (take-at p (drop (length p) before) at e)
+    (ap (λ (k : ℕ). drop (k + length q) (p ++ drop (length p) before)) (sym e)
+    ∙ drop-append-add p (drop (length p) before) (length q)
+    ∙ drop-drop (length q) (length p) before
+    ∙ ap (λ (k : ℕ). drop k before) (sym (length-append p q)))
+    ∙ sym (append-assoc p q (drop (length (p ++ q)) before))

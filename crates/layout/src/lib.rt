@@ -4,7 +4,7 @@ ghost use mathlib.Core.Path.{_≡_};
 ghost use Prim.Native.Nat.{_+_, _*_, _≤_, _<_};
 ghost use lib.ListN.{length};
 ghost use Rattle.answer.specs.Table.{First, Decides};
-ghost use Rattle.layout.specs.Layout.{sizes, Shows};
+ghost use Rattle.layout.specs.Layout.{sizes, Shows, lineFour, overAt};
 ghost use Rattle.layout.specs.Rows.{Numbers, Place, Good, Fresh};
 ghost use Rattle.layout.specs.Checked.{Checks};
 
@@ -174,4 +174,24 @@ pub fn check(places: &[u8], runs: &[u8], line: Range) -> Checked
         };
     }
     Checked::Sound
+}
+
+// The bytes of line four.
+pub fn line_four(line: Range) -> [u8; 4]
+    ensures { λ r. ⌜ r ≡ lineFour (line .low) (line .high) ⌝ }
+{
+    [
+        (line.low % 256) as u8,
+        (line.low / 256) as u8,
+        (line.high % 256) as u8,
+        (line.high / 256) as u8,
+    ]
+}
+
+// Writes src into the buffer from at on.
+pub fn put(src: &[u8], form: &mut [u8], at: usize)
+    requires { ⌜ at + length (now src) ≤ length (now form) ⌝ }
+    ensures { λ _. ⌜ now (form .exit) ≡ overAt at (now (src .entry)) (now (form .entry)) ⌝ }
+{
+    bytes::copy(src, &mut form[at..]);
 }

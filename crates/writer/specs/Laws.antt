@@ -12,7 +12,7 @@ use Rattle.layout.specs.Checked.{told as checked, Checks}
 use Rattle.layout.specs.declared.Checked.{Checked}
 use Rattle.layout.specs.declared.Checked.the-variants.{Sound, Unsound}
 use Rattle.layout.specs.Layout.{sizes, lineAt, runsIn, Fields, lengthFor, contents, lineFour, image, over, overAt}
-use Rattle.layout.specs.Image.{head, up-to-runs, up-to-line}
+use Rattle.layout.specs.Image.{head, up-to-runs, up-to-line, over-more}
 use Rattle.layout.specs.Rows.{soundRows}
 use Rattle.writer.specs.Writing.{told, Left, Leaves, Writes}
 use Rattle.writer.specs.declared.Writing.{Writing}
@@ -38,32 +38,6 @@ module _ (f : Fields) (before : List ℕ) {r : Checked} (p : Checks f r) (e : r 
   written fits same = onward p (λ number k g. absurd (not-refused (sym (ap checked e) ∙ g))) (λ _. passes fits (ends same))
 
 -- ---- writing one part after the other
--- a copy to the part of a buffer from at on
-pub put-is : (at : ℕ) (src xs ys : List ℕ) → at + length src ≤ length xs
-    → ys ≡ take (length src) src ++ drop (length src) (take (length xs - at) (drop at xs))
-    → take at xs ++ (ys ++ drop (length xs - at) (drop at xs)) ≡ overAt at src xs
-put-is at src xs ys fits e =
-    ap (λ (l : List ℕ). take at xs ++ l)
-    (ap₂ (λ (a b : List ℕ). a ++ b)
-    (e ∙ ap₂ (λ (a b : List ℕ). a ++ drop (length src) b) (take-length src) (take-all (length xs - at) (drop at xs) end))
-    (drop-of-length-le (drop at xs) end)
-    ∙ append-nil (src ++ drop (length src) (drop at xs))
-    ∙ ap (λ (l : List ℕ). src ++ l) (drop-drop (length src) at xs))
-  where
-    end : length (drop at xs) ≤ length xs - at
-    end = simp length-drop (omega arith)
-
--- what is written next follows what was written
-pub over-more : (p q before : List ℕ) (at : ℕ) → length p ≡ at → overAt at q (over p before) ≡ over (p ++ q) before
-over-more p q before at e =
-    ap₂ (λ (a b : List ℕ). a ++ (q ++ b))
-    (take-at p (drop (length p) before) at e)
-    (ap (λ (k : ℕ). drop (k + length q) (p ++ drop (length p) before)) (sym e)
-    ∙ drop-append-add p (drop (length p) before) (length q)
-    ∙ drop-drop (length q) (length p) before
-    ∙ ap (λ (k : ℕ). drop k before) (sym (length-append p q)))
-    ∙ sym (append-assoc p q (drop (length (p ++ q)) before))
-
 -- the four parts, one after the other, are the image at the start of the buffer
 module _ (f : Fields) (wholes : length (f .runs) ≡ 5 * runsIn sizes (f .runs)) where
   pub four-parts : (before : List ℕ) {b₁ b₂ b₃ b₄ : List ℕ} (h l : List ℕ) (line : ℕ) → h ≡ head f → l ≡ lineFour (f .low) (f .high)

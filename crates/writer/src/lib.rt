@@ -4,9 +4,7 @@ use layout::CONTENTS;
 use layout::Checked;
 use layout::RUN;
 ghost use mathlib.Core.Path.{_≡_};
-ghost use Prim.Native.Nat.{_+_, _≤_};
-ghost use lib.ListN.{length};
-ghost use Rattle.layout.specs.Layout.{sizes, contents, lineFour, overAt};
+ghost use Rattle.layout.specs.Layout.{sizes, contents};
 ghost use Rattle.layout.specs.Rows.{Numbers};
 ghost use Rattle.writer.specs.Writing.{Writes};
 
@@ -46,25 +44,6 @@ fn table_of_contents(n: usize, m: usize) -> [u8; 20]
     ]
 }
 
-fn line_four(line: Range) -> [u8; 4]
-    ensures { λ r. ⌜ r ≡ lineFour (line .low) (line .high) ⌝ }
-{
-    [
-        (line.low % 256) as u8,
-        (line.low / 256) as u8,
-        (line.high % 256) as u8,
-        (line.high / 256) as u8,
-    ]
-}
-
-// Writes src into the buffer from at on.
-fn put(src: &[u8], form: &mut [u8], at: usize)
-    requires { ⌜ at + length (now src) ≤ length (now form) ⌝ }
-    ensures { λ _. ⌜ now (form .exit) ≡ overAt at (now (src .entry)) (now (form .entry)) ⌝ }
-{
-    bytes::copy(src, &mut form[at..]);
-}
-
 // Writes the form of these places, runs and line four at the start of the lent buffer, and keeps the rest of it.
 pub fn write(places: &[u8], runs: &[u8], line: Range, form: &mut [u8]) -> Writing
     ensures { λ r. ⌜ Writes (record { places = now (places .entry); runs = now (runs .entry); low = line .low; high = line .high }) (now (form .entry)) r (now (form .exit)) ⌝ }
@@ -85,10 +64,10 @@ pub fn write(places: &[u8], runs: &[u8], line: Range, form: &mut [u8]) -> Writin
         };
     }
     let contents = table_of_contents(n, m);
-    let four = line_four(line);
-    put(&contents, form, 0);
-    put(places, form, CONTENTS);
-    put(runs, form, runs_at);
-    put(&four, form, line_at);
+    let four = layout::line_four(line);
+    layout::put(&contents, form, 0);
+    layout::put(places, form, CONTENTS);
+    layout::put(runs, form, runs_at);
+    layout::put(&four, form, line_at);
     Writing::Written { length }
 }

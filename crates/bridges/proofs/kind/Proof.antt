@@ -1,11 +1,10 @@
--- `kind` has the labels by the other runs: the law of what they say of the run's ends answers each return.
 use Prim.Native.Nat.{_≤_}
 use mathlib.Core.Path.{_≡_, sym}
 use lib.ListN.{length, length-set}
 use native.Mathlib.Omega.{arith}
 use borrow.Author.Needs.{needs}
-use Rattle.pieces.specs.Holds.{fits-ended}
 use Rattle.bridges.specs.Laws.{Without, below, labels-below, struck, struck-length, kind-joined, kind-bare-u, kind-bare-v, kind-supplied}
+use Rattle.pieces.specs.Holds.{fits-ended}
 use Rattle.bridges.proofs.kind.Statement.{statement}
 use Rattle.bridges.proofs.kind.Tie as tie
 

@@ -1,4 +1,3 @@
--- `kinds` has the labels of the runs passed, and their kinds.
 use Prim.Native.Nat.{_-_, _<_}
 use mathlib.Core.Logic.{⊎-elim}
 use native.Mathlib.Omega.{arith}

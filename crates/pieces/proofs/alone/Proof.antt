@@ -1,4 +1,3 @@
--- `alone` fills the array from the front, each place with its own number.
 use Prim.Native.Nat.{ℕ, _-_}
 use mathlib.Core.Path.{refl}
 use lib.ListN.{length-replicate}

@@ -1,12 +1,11 @@
--- `count` has counted the pieces among the places passed.
 use Prim.Native.Nat.{_-_, _≤_}
 use mathlib.Core.Logic.{⊎-elim}
 use mathlib.Core.Path.{_≡_, sym, ap, _∙_}
 use native.Mathlib.Omega.{arith}
 use borrow.Author.Needs.{needs}
-use Rattle.wirings.specs.Pieces.{pieces}
 use Rattle.pieces.specs.Holds.{at}
 use Rattle.pieces.specs.Laws.{counted, counted-none, counted-here, counted-past}
+use Rattle.wirings.specs.Pieces.{pieces}
 use Rattle.pieces.proofs.count.Statement.{statement}
 use Rattle.pieces.proofs.count.Tie as tie
 

@@ -1,13 +1,12 @@
--- `count_supplied` has counted the pieces with a supply among the places passed.
 use Prim.Native.Nat.{ℕ, _-_, _≤_, min}
 use mathlib.Core.Logic.{⊎-elim}
 use mathlib.Core.Path.{_≡_, sym, ap, _∙_}
 use lib.ListN.{length}
 use native.Mathlib.Omega.{arith}
 use borrow.Author.Needs.{needs}
-use Rattle.wirings.specs.Pieces.{stock, fedPieces}
 use Rattle.pieces.specs.Holds.{at}
 use Rattle.pieces.specs.Laws.{counted, counted-none, counted-here, counted-past}
+use Rattle.wirings.specs.Pieces.{stock, fedPieces}
 use Rattle.pieces.proofs.count_supplied.Statement.{statement}
 use Rattle.pieces.proofs.count_supplied.Tie as tie
 

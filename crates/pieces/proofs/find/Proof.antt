@@ -1,4 +1,3 @@
--- `find` has the labels of the runs passed, and the first of them that closes.
 use Prim.Native.Nat.{_-_, _<_}
 use mathlib.Core.Logic.{⊎-elim}
 use native.Mathlib.Omega.{arith}

@@ -1,12 +1,11 @@
--- `join` goes through the labels from the front: those passed have moved. The lower and the higher label are told by the tests before.
 use Prim.Native.Nat.{_-_, min, max}
 use mathlib.Core.Logic.{⊎-elim}
 use mathlib.Core.Path.{_≡_, sym, _∙_}
 use native.Mathlib.Omega.{arith}
 use borrow.Author.Needs.{needs}
-use Rattle.wirings.specs.Labels.{moved, moved-is, moved-not}
 use Rattle.pieces.specs.Holds.{at}
 use Rattle.pieces.specs.Laws.{Filled, filled-none, filled-set, filled-keep, filled-all}
+use Rattle.wirings.specs.Labels.{moved, moved-is, moved-not}
 use Rattle.pieces.proofs.join.Statement.{statement}
 use Rattle.pieces.proofs.join.Tie as tie
 

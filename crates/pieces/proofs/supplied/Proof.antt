@@ -1,4 +1,3 @@
--- `supplied` has marked the pieces of the supplies passed.
 use Prim.Native.Nat.{_-_, _≤_}
 use mathlib.Core.Logic.{⊎-elim}
 use mathlib.Core.Path.{_≡_}

@@ -1,12 +1,11 @@
--- `fixed` has flagged the fixed ones of the runs passed.
 use Prim.Native.Nat.{_-_, _≤_}
 use mathlib.Core.Logic.{⊎-elim}
 use mathlib.Core.Path.{_≡_}
 use lib.ListN.{length, length-set}
 use native.Mathlib.Omega.{arith}
 use borrow.Author.Needs.{needs}
-use Rattle.scan.specs.Scans.{Flags}
 use Rattle.scan.specs.Laws.{flags-none, flags-pass, flags-fixed}
+use Rattle.scan.specs.Scans.{Flags}
 use Rattle.scan.proofs.fixed.Statement.{statement}
 use Rattle.scan.proofs.fixed.Tie as tie
 

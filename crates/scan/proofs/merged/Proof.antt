@@ -1,4 +1,3 @@
--- `merged` gives the lower label what either had, and the higher one nothing.
 use Prim.Native.Nat.{min, max}
 use mathlib.Core.Logic.{⊎-elim}
 use mathlib.Core.Path.{_≡_}

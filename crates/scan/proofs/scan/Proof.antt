@@ -1,4 +1,3 @@
--- `scan` has looked at the runs passed: what it holds is what the scan has then, for every order that its arguments describe.
 use Prim.Native.Nat.{ℕ, _-_, _≤_, _<_}
 use mathlib.Core.Logic.{⊎-elim}
 use mathlib.Core.Path.{_≡_, sym}
@@ -7,8 +6,8 @@ use lib.Seq.{length-take-le}
 use native.Mathlib.Omega.{arith}
 use borrow.Author.Needs.{needs}
 use Rattle.pieces.specs.Holds.{at, fits-ended}
-use Rattle.wirings.specs.Wiring.{Order}
 use Rattle.scan.specs.Laws.{labels-of-le, Going, going-le, Of, some-of, going-none, going-pass, going-closed, going-full, going-take, going-all}
+use Rattle.wirings.specs.Wiring.{Order}
 use Rattle.scan.proofs.scan.Statement.{statement}
 use Rattle.scan.proofs.scan.Tie as tie
 

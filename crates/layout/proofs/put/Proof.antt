@@ -1,9 +1,9 @@
 -- `put` is a copy to the part of the buffer from `at` on.
 use denote.Ref.{now}
 use borrow.Author.Needs.{needs}
-use Rattle.writer.specs.Laws.{put-is}
-use Rattle.writer.proofs.put.Statement.{statement}
-use Rattle.writer.proofs.put.Tie as tie
+use Rattle.layout.specs.Image.{put-is}
+use Rattle.layout.proofs.put.Statement.{statement}
+use Rattle.layout.proofs.put.Tie as tie
 
 sub-copy : tie.Need-sub-copy
 sub-copy c = search needs

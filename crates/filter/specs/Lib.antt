@@ -1,0 +1,4 @@
+pub mod Filtered
+pub mod Laws
+pub mod Confirmed
+pub mod Settling
