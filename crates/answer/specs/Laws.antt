@@ -64,18 +64,30 @@ first-one {a = a} {b = b} p q =
       | no nl ↦ elim (decLt b a) [ yes l ↦ absurd (not-before q p l) | no nr ↦ omega arith ]
     ]
 
--- ---- any two outcomes of a table are equal, where the last word allows one only
-module _ {R : Type 0} (refusal : ℕ → ℕ → R) (K : R → Type 0) (one : (r s : R) → K r → K s → r ≡ s) where
-  outcome-one : (rows : List Row) (r s : R) → Outcome refusal rows K r → Outcome refusal rows K s → r ≡ s
-  outcome-one [] r s p q = one r s p q
-  outcome-one (row ∷ rows) r s (inl (j, f, e)) (inl (k, g, h)) = e ∙ ap (refusal (row .number)) (first-one (f .0) (g .0)) ∙ sym h
-  outcome-one (row ∷ rows) r s (inl (j, f, e)) (inr (c, q)) = absurd (not-before (f .0) c (f .1))
-  outcome-one (row ∷ rows) r s (inr (c, p)) (inl (k, g, h)) = absurd (not-before (g .0) c (g .1))
-  outcome-one (row ∷ rows) r s (inr (c, p)) (inr (d, q)) = outcome-one rows r s p q
+-- ---- any two outcomes of a table are equal, where the last word allows one only once no row has a fault
+module _ {R : Type 0} (refusal : ℕ → ℕ → R) (K : R → Type 0) where
+  outcome-one : (rows : List Row) → (Clears rows → (r s : R) → K r → K s → r ≡ s) → (r s : R) → Outcome refusal rows K r → Outcome refusal rows K s → r ≡ s
+  outcome-one [] one r s p q = one tt r s p q
+  outcome-one (row ∷ rows) one r s (inl (j, f, e)) (inl (k, g, h)) = e ∙ ap (refusal (row .number)) (first-one (f .0) (g .0)) ∙ sym h
+  outcome-one (row ∷ rows) one r s (inl (j, f, e)) (inr (c, q)) = absurd (not-before (f .0) c (f .1))
+  outcome-one (row ∷ rows) one r s (inr (c, p)) (inl (k, g, h)) = absurd (not-before (g .0) c (g .1))
+  outcome-one (row ∷ rows) one r s (inr (c, p)) (inr (d, q)) = outcome-one rows (λ cs. one (c, cs)) r s p q
 
-pub settled-one : {R : Type 0} {refusal : ℕ → ℕ → R} {rows : List Row} {K : R → Type 0} {r s : R}
-    → ((r s : R) → K r → K s → r ≡ s) → Settled refusal rows K r → Settled refusal rows K s → r ≡ s
-settled-one {refusal = refusal} {rows} {K} {r} {s} one p q = outcome-one refusal K one rows r s (p .outcome) (q .outcome)
+  -- where no row has a fault, the last word was said
+  outcome-last : (rows : List Row) → Clears rows → (r : R) → Outcome refusal rows K r → K r
+  outcome-last [] c r p = p
+  outcome-last (row ∷ rows) (c, cs) r (inl (k, f, e)) = absurd (not-before (f .0) c (f .1))
+  outcome-last (row ∷ rows) (c, cs) r (inr (d, p)) = outcome-last rows cs r p
+
+module _ {R : Type 0} {refusal : ℕ → ℕ → R} {rows : List Row} {K : R → Type 0} {r : R} where
+  pub settled-if : {s : R} → (Clears rows → (r s : R) → K r → K s → r ≡ s) → Settled refusal rows K r → Settled refusal rows K s → r ≡ s
+  settled-if {s} one p q = outcome-one refusal K rows one r s (p .outcome) (q .outcome)
+
+  pub settled-one : {s : R} → ((r s : R) → K r → K s → r ≡ s) → Settled refusal rows K r → Settled refusal rows K s → r ≡ s
+  settled-one one p q = settled-if (λ _. one) p q
+
+  pub settled-last : Clears rows → Settled refusal rows K r → K r
+  settled-last c p = outcome-last refusal K rows c r (p .outcome)
 
 -- ---- a row about the whole form has no fault where its fact holds
 pub clear : {P : Type 0} → P → First (λ _. P) 1 1

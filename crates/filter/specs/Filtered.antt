@@ -31,9 +31,13 @@ pub record Room (f : Fields) (lent : Lent) : Type 0 where
   pub wiring : runsIn sizes (f .runs) ≤ length (lent .wiring)
   pub segments : length (f .places) ≤ length (lent .segments)
 
+-- what comes after the reading: 8 to 11
+abbrev pub laterRows : Fields → Lent → List Row
+laterRows f lent = whole 8 (Room f lent) ∷ orderRows (orderOf f)
+
 -- the whole table, 1 to 11
 abbrev pub filterRows : List ℕ → Lent → List Row
-filterRows s lent = let f = fieldsOf sizes s in readRows sizes s ++ (whole 8 (Room f lent) ∷ orderRows (orderOf f))
+filterRows s lent = readRows sizes s ++ laterRows (fieldsOf sizes s) lent
 
 -- the records of the runs with other states for the first m
 unfoldable pub restated : (ℕ → ℕ) → ℕ → List ℕ → List ℕ

@@ -2,3 +2,4 @@ pub mod Filtered
 pub mod Laws
 pub mod Confirmed
 pub mod Settling
+pub mod Demand2
