@@ -11,13 +11,12 @@ use Rattle.layout.specs.Layout.{sizes, endU, endV, Shows}
 use Rattle.pieces.specs.Holds.{at, Holds, Fits, labelsOf}
 use Rattle.pieces.specs.Laws.{Seen, holds-same, labels-none, labels-pass, labels-join, moved-one}
 use Rattle.wirings.specs.Chosen.{chosen, flagged, chosen-used, used-chosen}
-use Rattle.wirings.specs.Counted.{stocked}
+use Rattle.wirings.specs.Counted.{stocked, fed-stocked, stocked-fed}
 use Rattle.wirings.specs.Joined.{joined-mono, fed-mono}
 use Rattle.wirings.specs.Labels.{In, label, label-le, joined-same, same-joined, moved}
 use Rattle.wirings.specs.Marks.{Others, Bridge, bypassed, supplied, bare}
 use Rattle.wirings.specs.OfForm.{States}
 use Rattle.wirings.specs.Pieces.{stock, stock-same}
-use Rattle.wirings.specs.Tally.{when, when-is, When, same, apart, whens, tally-at, tally-some}
 use Rattle.wirings.specs.Wiring.{Order, Joined, Fed}
 use Rattle.bridges.specs.Kinds.{Kind, Kinds}
 
@@ -33,27 +32,6 @@ module _ (places runs states : List ℕ) (m r kind : ℕ) where
     where
       whole : o ≡ orderWith places runs m (o .state) (o .low) (o .high)
       whole = λ i. record { n = d .n i; m = e i; supply = d .supply i; u = d .u i; v = d .v i; state = o .state; low = o .low; high = o .high }
-
--- ---- supplies are 0 or 1: a piece holds one exactly if its places are joined with one
-module _ (o : Order) (bit : (x : ℕ) → o .supply x ≤ 1) (L : List ℕ) where
-  fed-stocked : (x : ℕ) → Fed o (In L) x → 0 < stocked o L x
-  unfolding stock
-  fed-stocked x f =
-      omega (
-        arith,
-        tally-at (λ y. when (label o L y) (label o L x) (o .supply y)) (o .n) (f .at) (f .place),
-        when-is (label o L (f .at)) (label o L x) (o .supply (f .at)) (sym (joined-same o L (f .joined))),
-        f .supplied,
-      )
-
-  stocked-fed : (x : ℕ) → 0 < stocked o L x → Fed o (In L) x
-  unfolding stock
-  stocked-fed x h = let t = tally-some (λ y. when (label o L y) (label o L x) (o .supply y)) (o .n) h in
-      go (t .at) (t .below) (whens (label o L (t .at)) (label o L x) (o .supply (t .at))) (t .some)
-    where
-      go : (y : ℕ) → y < o .n → {z : ℕ} → When (label o L y) (label o L x) (o .supply y) z → 0 < z → Fed o (In L) x
-      go y l (same e f) p = record { at = y; place = l; supplied = omega (arith, bit y); joined = same-joined o L (sym e) }
-      go y l (apart e f) p = absurd (omega arith)
 
 -- ---- the states with run r struck, which flag the other unstruck runs
 abbrev pub struck : List ℕ → ℕ → ℕ → List ℕ
@@ -135,7 +113,7 @@ module _ {places runs states : List ℕ} {m r : ℕ} {labels : List ℕ} {u v st
           )
 
       fed-marked : (x y : ℕ) → x < 256 → x ≡ y → Fed o (Others o r) y → at fed (at labels x) ≡ 0 → ⊥
-      fed-marked x y l e f z = omega (arith, marks x y l e, fed-stocked o (w .fits .bit) L y (fed-mono L-in f))
+      fed-marked x y l e f z = omega (arith, marks x y l e, fed-stocked o (w .fits .bit) L (fed-mono L-in f))
 
       marked-fed : (x y : ℕ) → x < 256 → x ≡ y → (at fed (at labels x) ≡ 0 → ⊥) → Fed o (Others o r) y
       marked-fed x y l e n = fed-mono in-L (stocked-fed o (w .fits .bit) L y (omega (arith, marks x y l e)))

@@ -8,7 +8,7 @@ use native.Mathlib.Omega.{arith}
 use Rattle.answer.specs.Laws.{not-refused, cleared, fact}
 use Rattle.answer.specs.Reply.{accepted, refused}
 use Rattle.answer.specs.Table.{Clears}
-use Rattle.confirm.specs.Judged.{StatesOf, Settles, orderRows, Met, Judges}
+use Rattle.confirm.specs.Judged.{StatesOf, Settles, Judges}
 use Rattle.confirm.specs.Judging.{fields-fit}
 use Rattle.confirm.specs.Ready.{Ready, MarkedTo}
 use Rattle.layout.specs.Checked.{told}

@@ -1,10 +1,10 @@
--- Numbers 9 to 11 of the paper's table, and what is known once they are passed.
+-- A verdict on numbers 9 to 11 of the paper's table, and what is known once they are passed.
 use Prim.Native.Nat.{ℕ, min, max, _≤_, _<_}
-use mathlib.Core.List.{List, [], _∷_}
+use mathlib.Core.List.{List}
 use mathlib.Core.Path.{_≡_}
 use lib.ListN.{length, getD}
 use Rattle.answer.specs.Reply.{Reply, accepted, refused}
-use Rattle.answer.specs.Table.{First, Row, each, whole, Settled}
+use Rattle.answer.specs.Table.{First, Settled}
 use Rattle.layout.specs.Checked.{told}
 use Rattle.layout.specs.declared.Checked.{Checked}
 use Rattle.layout.specs.Layout.{sizes, stateOf, Fields}
@@ -13,22 +13,13 @@ use Rattle.wirings.specs.Labels.{label}
 use Rattle.wirings.specs.Limits.{fixedRuns, least, most}
 use Rattle.wirings.specs.OfForm.{orderOf}
 use Rattle.wirings.specs.Pieces.{stock}
-use Rattle.wirings.specs.Theorem1.{Opens, Reached}
+use Rattle.wirings.specs.Theorem1.{Opens, Reached, orderRows}
 use Rattle.wirings.specs.Wiring.{Order}
 
 -- the states of the first m runs, and nothing past them
 pub record StatesOf (runs : List ℕ) (m : ℕ) (states : List ℕ) : Type 0 where
   pub says : (r : ℕ) → r < m → getD states r 0 ≡ stateOf sizes runs r
   pub rest : (r : ℕ) → m ≤ r → getD states r 0 ≡ 0
-
--- 11: low..high meets MIN..MAX
-pub record Met (o : Order) : Type 0 where
-  pub few : least o ≤ o .high
-  pub enough : o .low ≤ most o
-
--- 9: no fixed run closes a loop with earlier ones. 10: each place is joined with a supply by unstruck runs
-abbrev pub orderRows : Order → List Row
-orderRows o = each 9 (o .m) (Opens o) ∷ each 10 (o .n) (Reached o) ∷ whole 11 (Met o) ∷ []
 
 abbrev pub Settles : Order → Checked → Type 0
 Settles o verdict = Settled refused (orderRows o) (λ a. a ≡ accepted tt) (told verdict)

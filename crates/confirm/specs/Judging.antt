@@ -119,8 +119,8 @@ pub bare-first : (f : Fields) (sound : Clears (soundRows sizes f)) (found fed : 
     → First (λ x. 0 < at fed (at found x)) (length (f .places)) bare → First (Reached (orderOf f)) (length (f .places)) bare
 bare-first f sound found fed labelled supplied h =
     first-alike
-    (λ x l p. fed-mono (in-unstruck (orderOf f)) (stocked-fed (orderOf f) (order-sound f sound) G x (omega (arith, at-label f sound G found fed labelled supplied x l))))
-    (λ x l p. omega (arith, at-label f sound G found fed labelled supplied x l, fed-stocked (orderOf f) (order-sound f sound) G (fed-mono (λ r q. unstruck-in (orderOf f) r (q .0) (q .1)) p)))
+    (λ x l p. fed-mono (in-unstruck (orderOf f)) (stocked-fed (orderOf f) (order-sound f sound .bit) G x (omega (arith, at-label f sound G found fed labelled supplied x l))))
+    (λ x l p. omega (arith, at-label f sound G found fed labelled supplied x l, fed-stocked (orderOf f) (order-sound f sound .bit) G (fed-mono (λ r q. unstruck-in (orderOf f) r (q .0) (q .1)) p)))
     h
   where
     G : List ℕ

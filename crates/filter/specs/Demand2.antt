@@ -12,14 +12,13 @@ use Rattle.answer.specs.declared.Answer.the-variants.{Accepted as Yes, Refused 
 use Rattle.answer.specs.Laws.{not-refused, accepted-one, settled-if, settled-last, cleared, clears-join, clears-front, clear, fact}
 use Rattle.answer.specs.Reply.{Reply, accepted, refused, Counts, told}
 use Rattle.answer.specs.Table.{Clears}
-use Rattle.confirm.specs.Judged.{orderRows}
 use Rattle.filter.specs.Filtered.{Lent, Left, Room, laterRows, filterRows, restated, confirmedFields, bit, Written, Accepted, Leaves, Filters}
 use Rattle.layout.specs.Layout.{sizes, word, runsIn, Fields, image, over}
 use Rattle.layout.specs.Laws.{fields-sound}
 use Rattle.layout.specs.Rows.{fieldsOf, readRows, soundRows}
 use Rattle.wirings.specs.OfForm.{orderOf, order-sound}
 use Rattle.wirings.specs.Same.{confirmed-one}
-use Rattle.wirings.specs.Theorem1.{meets-of}
+use Rattle.wirings.specs.Theorem1.{orderRows, meets-of}
 use Rattle.wirings.specs.Wiring.{Wiring, Lawful}
 
 -- ---- confirmed exactly if a lawful wiring exists

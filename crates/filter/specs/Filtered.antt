@@ -7,11 +7,11 @@ use lib.ListN.{length, getD, set}
 use Rattle.answer.specs.declared.Answer.{Answer}
 use Rattle.answer.specs.Reply.{Reply, accepted, refused, Counts, told}
 use Rattle.answer.specs.Table.{Row, whole, Settled}
-use Rattle.confirm.specs.Judged.{orderRows}
 use Rattle.layout.specs.Layout.{sizes, runsIn, Fields, lengthFor, image, over}
 use Rattle.layout.specs.Rows.{fieldsOf, readRows}
 use Rattle.wirings.specs.Confirmed.{Confirmed}
 use Rattle.wirings.specs.OfForm.{orderOf}
+use Rattle.wirings.specs.Theorem1.{orderRows}
 use Rattle.wirings.specs.Wiring.{Wiring}
 
 -- the three lent buffers: the form, the wiring and the segment numbers

@@ -103,8 +103,8 @@ module _ (o : Order) (ok : Sound o) where
     pub feds-mono : feds o M ≤ feds o L
     feds-mono = omega (arith, more-less M L runs .1, feds-ext o (M ++ L) M join-ext (in-front M L))
 
--- ---- supplies
-module _ (o : Order) (ok : Sound o) (L : List ℕ) where
+-- ---- supplies are 0 or 1: a piece holds one exactly if its places are joined with one
+module _ (o : Order) (bit : (x : ℕ) → o .supply x ≤ 1) (L : List ℕ) where
   pub fed-stocked : {x : ℕ} → Fed o (In L) x → 0 < stocked o L x
   unfolding stock
   fed-stocked {x} f =
@@ -121,7 +121,7 @@ module _ (o : Order) (ok : Sound o) (L : List ℕ) where
       go (t .at) (t .below) (whens (label o L (t .at)) (label o L x) (o .supply (t .at))) (t .some)
     where
       go : (y : ℕ) → y < o .n → {z : ℕ} → When (label o L y) (label o L x) (o .supply y) z → 0 < z → Fed o (In L) x
-      go y l (same e f) p = record { at = y; place = l; supplied = omega (arith, ok .bit y); joined = same-joined o L (sym e) }
+      go y l (same e f) p = record { at = y; place = l; supplied = omega (arith, bit y); joined = same-joined o L (sym e) }
       go y l (apart e f) p = absurd (omega arith)
 
   pub fed-dec : (x : ℕ) → Fed o (In L) x ⊎ (Fed o (In L) x → ⊥)

@@ -103,7 +103,7 @@ module _ (o : Order) (ok : Sound o) (line : o .low ≤ o .high) (meets : Meets o
             held .spent,
             z,
             segments-are o b c,
-            all-fed o ok (usedRuns o b) (lawful-fed o ok b h),
+            all-fed o (ok .bit) (usedRuns o b) (lawful-fed o ok b h),
             feds-mono o ok (i ∷ seen .before .taken) (usedRuns o b) (λ r k. in-used o b r k .0) (λ r k. ⊎-elim (λ p. used-in o b r (subst (Used o b) (sym p) (l, used))) (λ m. used-in o b r (theirs r m .0)) k),
           )
           go (free d z q) = took (subst (λ (x : Scan). In (x .taken) i) (sym q) (inl refl))

@@ -17,3 +17,8 @@ pub mod First
 pub mod OfForm
 pub mod Same
 pub mod Loops
+pub mod Solved
+pub mod Worked
+pub mod Standing
+pub mod Amendments
+pub mod Keyed

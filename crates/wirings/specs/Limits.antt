@@ -118,4 +118,4 @@ module _ (o : Order) (ok : Sound o) (w : Wiring) (h : Lawful o w) where
 
   pub lawful-most : h .count ≤ most o
   lawful-most =
-      omega (arith, lawful-count, all-fed o ok (usedRuns o w) lawful-fed, feds-mono o ok (fixedRuns o) (usedRuns o w) (λ r k. in-used o w r k .0) lawful-more)
+      omega (arith, lawful-count, all-fed o (ok .bit) (usedRuns o w) lawful-fed, feds-mono o ok (fixedRuns o) (usedRuns o w) (λ r k. in-used o w r k .0) lawful-more)

@@ -52,7 +52,7 @@ module _ (o : Order) (ok : Sound o) (line : o .low ≤ o .high) (meets : Meets o
           feds-one o ok e (fixedRuns o) run open′,
           h .enough,
           lawful-count o ok w h,
-          all-fed o ok (usedRuns o w) (lawful-fed o ok w h),
+          all-fed o (ok .bit) (usedRuns o w) (lawful-fed o ok w h),
           feds-mono o ok (e ∷ fixedRuns o) (usedRuns o w) (λ r k. in-used o w r k .0) sub,
         )
       where

@@ -99,7 +99,7 @@ module _ (o : Order) (ok : Sound o) (c : ℕ → ℕ) (from : Scan) where
   kept-look : {i : ℕ} {s t : Scan} → Kept o c from i s → c i < o .m → o .state (c i) ≡ 1 → Verdict o (c i) s t → Kept o c from (suc i) t
   kept-look {i} {s} k run e (closed p q) = subst (Kept o c from (suc i)) (sym q) (kept-same k (λ _. inr (inl (same-joined o (s .taken) p))))
   kept-look {i} {s} k run e (full d p q z h) =
-      subst (Kept o c from (suc i)) (sym h) (kept-same k (λ _. inr (inr (z, stocked-fed o ok (s .taken) (o .u (c i)) p, stocked-fed o ok (s .taken) (o .v (c i)) q))))
+      subst (Kept o c from (suc i)) (sym h) (kept-same k (λ _. inr (inr (z, stocked-fed o (ok .bit) (s .taken) (o .u (c i)) p, stocked-fed o (ok .bit) (s .taken) (o .v (c i)) q))))
   kept-look {i} {s} k run e (free d z h) =
       subst (Kept o c from (suc i)) (sym h) (kept-take (s .spare) k run e d (omega (arith, feds-one o ok (c i) (s .taken) run d)) (λ p. p))
   kept-look {i} {s} k run e (spends d p q l h) =

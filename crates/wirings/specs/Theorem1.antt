@@ -10,6 +10,7 @@ use lib.Dec.{eqb}
 use native.Mathlib.Decide.{ℕ-discrete, decLt}
 use native.Mathlib.Nat.{le-antisymm}
 use native.Mathlib.Omega.{arith}
+use Rattle.answer.specs.Table.{Row, each, whole}
 use Rattle.wirings.specs.Chosen.{taken, chosen, chosen-used, used-chosen, true-not-false}
 use Rattle.wirings.specs.Counted.{Sound, Runs, comps, feds, comps-ext, comps-mono, feds-mono, all-fed}
 use Rattle.wirings.specs.Forest.{Forest, forest-no-loop}
@@ -138,7 +139,7 @@ module _ (o : Order) (ok : Sound o) (meets : Meets o) where
   least-most =
       omega (
         arith,
-        all-fed o ok (unstruckRuns o) in-G,
+        all-fed o (ok .bit) (unstruckRuns o) in-G,
         feds-mono o ok (fixedRuns o) (unstruckRuns o) (λ r h. in-unstruck o r h .0) (λ r h. let q = in-fixed o r h in unstruck-in o r (q .0) (omega (arith, q .1))),
       )
 
@@ -197,8 +198,8 @@ module _ (o : Order) (ok : Sound o) (meets : Meets o) (k : ℕ) (lk : least o �
   -- nothing is spare: else every unstruck run has its ends joined, and the count would be MIN
   counted : comps o (s .taken) ≡ k
   counted = elim (ℕ-discrete (s .spare) 0) [
-    | yes z ↦ omega (arith, held .spent, all-fed o ok (s .taken) supplied)
-    | no z ↦ absurd (omega (arith, held .spent, all-fed o ok (s .taken) supplied, whole z))
+    | yes z ↦ omega (arith, held .spent, all-fed o (ok .bit) (s .taken) supplied)
+    | no z ↦ absurd (omega (arith, held .spent, all-fed o (ok .bit) (s .taken) supplied, whole z))
   ]
     where
       shut : (s .spare ≡ 0 → ⊥) → (r : ℕ) → In (unstruckRuns o) r → Joined o (In (s .taken)) (o .u r) (o .v r)
@@ -242,3 +243,13 @@ meets-of o ok w h = record {
   few = omega (arith, lawful-least o ok w h, h .few);
   enough = omega (arith, lawful-most o ok w h, h .enough);
 }
+
+-- ---- the conditions as rows of the paper's table
+-- 11: low..high meets MIN..MAX
+pub record Met (o : Order) : Type 0 where
+  pub few : least o ≤ o .high
+  pub enough : o .low ≤ most o
+
+-- 9: no fixed run closes a loop with earlier ones. 10: each place is joined with a supply by unstruck runs
+abbrev pub orderRows : Order → List Row
+orderRows o = each 9 (o .m) (Opens o) ∷ each 10 (o .n) (Reached o) ∷ whole 11 (Met o) ∷ []
