@@ -42,7 +42,7 @@ lawful-confirmed s lent left read room w h p = settled-last (clears-join (readRo
     )
 
 -- ---- the reply is one, and so is every byte
-restated-same : (f g : ℕ → ℕ) (k : ℕ) (runs : List ℕ) → ((r : ℕ) → r < k → f r ≡ g r) → restated f k runs ≡ restated g k runs
+pub restated-same : (f g : ℕ → ℕ) (k : ℕ) (runs : List ℕ) → ((r : ℕ) → r < k → f r ≡ g r) → restated f k runs ≡ restated g k runs
 unfolding restated
 restated-same f g zero runs h = refl
 restated-same f g (suc k) runs h = ap₂ (λ (x : List ℕ) (v : ℕ). set x (5 * k + 4) v) (restated-same f g k runs (λ r l. h r (omega arith))) (h k (omega arith))
@@ -52,7 +52,7 @@ written-one {k = k} {before} {a} {b} w v h =
     ext-getD 0 a b (w .size ∙ sym (v .size))
     (λ j l. elim (decLt j k) [ yes p ↦ w .says j p ∙ h j p ∙ sym (v .says j p) | no p ↦ w .rest j (omega arith) ∙ sym (v .rest j (omega arith)) ])
 
-accepted-same : (f : Fields) → Clears (soundRows sizes f) → (lent : Lent) (x y : Left) → Accepted f lent x → Accepted f lent y → x ≡ y
+pub accepted-same : (f : Fields) → Clears (soundRows sizes f) → (lent : Lent) (x y : Left) → Accepted f lent x → Accepted f lent y → x ≡ y
 accepted-same f sound lent x y a b =
     let (e, s, t) = confirmed-one (orderOf f) (order-sound f sound) (a .confirmed) (b .confirmed) in
     λ i. record {
@@ -68,7 +68,7 @@ pub leaves-one : (s : List ℕ) (lent : Lent) (x y : Left) → Leaves s lent x �
 leaves-one s lent x y p q =
     settled-if (λ c. let read = clears-front (readRows sizes s) (laterRows (fieldsOf sizes s) lent) c in accepted-same (fieldsOf sizes s) (fields-sound sizes (omega arith) s (fact (read .1 .1 .0)) read) lent) p q
 
-told-one : (a b : Answer) → told a ≡ told b → a ≡ b
+pub told-one : (a b : Answer) → told a ≡ told b → a ≡ b
 told-one (Yes s p) (Yes s′ p′) e = let h = accepted-one e in λ i. Yes (h i .struck) (h i .pinned)
 told-one (Yes s p) (No i j) e = absurd (not-refused e)
 told-one (No i j) (Yes s p) e = absurd (not-refused (sym e))

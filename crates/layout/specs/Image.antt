@@ -44,22 +44,19 @@ word-past a b i k e =
     (ap (λ (j : ℕ). getD (a ++ b) j 0) (sym e) ∙ getD-append-add a b i 0)
     (ap (λ (j : ℕ). getD (a ++ b) j 0) (omega arith) ∙ getD-append-add a b (i + 1) 0)
 
--- ---- the image of sound fields is read as those fields
-module _ (f : Fields) (sound : Clears (soundRows sizes f)) where
-  wholes : length (f .runs) ≡ 5 * runsIn sizes (f .runs)
-  wholes = whole-runs sizes (omega arith) f sound
+-- ---- the image of fields with whole runs is read as those fields
+pub n-is : (f : Fields) → word (image sizes f) 6 ≡ length (f .places)
+n-is f = word-bytes (length (f .places))
 
-  pub n-is : word (image sizes f) 6 ≡ length (f .places)
-  n-is = word-bytes (length (f .places))
+pub m-is : (f : Fields) → word (image sizes f) 12 ≡ runsIn sizes (f .runs)
+m-is f = word-bytes (runsIn sizes (f .runs))
 
-  pub m-is : word (image sizes f) 12 ≡ runsIn sizes (f .runs)
-  m-is = word-bytes (runsIn sizes (f .runs))
-
+module _ (f : Fields) (wholes : length (f .runs) ≡ 5 * runsIn sizes (f .runs)) where
   line-at : lineAt sizes (word (image sizes f) 6) (word (image sizes f) 12) ≡ length (head f ++ f .places ++ f .runs)
-  line-at = ap₂ (lineAt sizes) n-is m-is ∙ sym (up-to-line f wholes)
+  line-at = ap₂ (lineAt sizes) (n-is f) (m-is f) ∙ sym (up-to-line f wholes)
 
-  pub fields-back : fieldsOf sizes (image sizes f) ≡ f
-  fields-back = λ i. record { places = places i; runs = runs i; low = low i; high = high i }
+  pub fields-whole : fieldsOf sizes (image sizes f) ≡ f
+  fields-whole = λ i. record { places = places i; runs = runs i; low = low i; high = high i }
     where
       s : List ℕ
       s = image sizes f
@@ -68,16 +65,24 @@ module _ (f : Fields) (sound : Clears (soundRows sizes f)) where
       line = lineAt sizes (word s 6) (word s 12)
 
       places : part s 20 (word s 6) ≡ f .places
-      places = ap (take (word s 6)) (append-assoc (f .places) (f .runs) (lineFour (f .low) (f .high))) ∙ take-at (f .places) (f .runs ++ lineFour (f .low) (f .high)) (word s 6) (sym n-is)
+      places = ap (take (word s 6)) (append-assoc (f .places) (f .runs) (lineFour (f .low) (f .high))) ∙ take-at (f .places) (f .runs ++ lineFour (f .low) (f .high)) (word s 6) (sym (n-is f))
 
       runs : part s (runsAt sizes (word s 6)) (5 * word s 12) ≡ f .runs
-      runs = part-at (head f ++ f .places) (f .runs) (lineFour (f .low) (f .high)) (up-to-runs f ∙ ap (runsAt sizes) (sym n-is)) (wholes ∙ ap (λ (k : ℕ). 5 * k) (sym m-is))
+      runs = part-at (head f ++ f .places) (f .runs) (lineFour (f .low) (f .high)) (up-to-runs f ∙ ap (runsAt sizes) (sym (n-is f))) (wholes ∙ ap (λ (k : ℕ). 5 * k) (sym (m-is f)))
 
       low : word s (lineAt sizes (word s 6) (word s 12)) ≡ f .low
       low = word-past (head f ++ f .places ++ f .runs) (lineFour (f .low) (f .high)) 0 line (omega (arith, line-at)) ∙ word-bytes (f .low)
 
       high : word s (lineAt sizes (word s 6) (word s 12) + 2) ≡ f .high
       high = word-past (head f ++ f .places ++ f .runs) (lineFour (f .low) (f .high)) 2 (line + 2) (omega (arith, line-at)) ∙ word-bytes (f .high)
+
+-- ---- and where they are sound, it has no fault
+module _ (f : Fields) (sound : Clears (soundRows sizes f)) where
+  wholes : length (f .runs) ≡ 5 * runsIn sizes (f .runs)
+  wholes = whole-runs sizes (omega arith) f sound
+
+  pub fields-back : fieldsOf sizes (image sizes f) ≡ f
+  fields-back = fields-whole f wholes
 
   pub read-back : Clears (readRows sizes (image sizes f))
   read-back = (
@@ -86,7 +91,7 @@ module _ (f : Fields) (sound : Clears (soundRows sizes f)) where
       clear numbers,
       (
         clear laid,
-        subst₃ (λ (n m : ℕ) (g : Fields). Clears (fieldRows sizes n m g)) (sym n-is) (sym m-is) (sym fields-back) (sound .1),
+        subst₃ (λ (n m : ℕ) (g : Fields). Clears (fieldRows sizes n m g)) (sym (n-is f)) (sym (m-is f)) (sym fields-back) (sound .1),
       ),
     ),
   )
@@ -98,10 +103,10 @@ module _ (f : Fields) (sound : Clears (soundRows sizes f)) where
       total = length-image f wholes
 
       numbers : Numbers (word s 6) (word s 12)
-      numbers = subst₂ Numbers (sym n-is) (sym m-is) (fact (sound .0))
+      numbers = subst₂ Numbers (sym (n-is f)) (sym (m-is f)) (fact (sound .0))
 
       laid : Laid sizes s (word s 6) (word s 12)
-      laid = omega (arith, total, n-is, m-is, word-bytes (runsAt sizes (length (f .places))), word-bytes (lineAt sizes (length (f .places)) (runsIn sizes (f .runs))))
+      laid = omega (arith, total, n-is f, m-is f, word-bytes (runsAt sizes (length (f .places))), word-bytes (lineAt sizes (length (f .places)) (runsIn sizes (f .runs))))
 
 -- ---- an image that is read is the image of its fields
 -- numbers as 16 bits each, one after the other; and that s holds them from i on

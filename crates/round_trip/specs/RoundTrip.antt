@@ -53,7 +53,7 @@ read-written f before after size w r p q a b c = (
     fields = fields-back f sound
 
     heading : _≡_ {A = Heading} (record { places = length (f .places); runs = runsIn sizes (f .runs); low = f .low; high = f .high }) (headingOf sizes s)
-    heading = λ i. record { places = sym (n-is f sound) i; runs = sym (m-is f sound) i; low = sym fields i .low; high = sym fields i .high }
+    heading = λ i. record { places = sym (n-is f) i; runs = sym (m-is f) i; low = sym fields i .low; high = sym fields i .high }
 
 -- Writing what was read gives the same bytes, and keeps the rest of the buffer.
 pub write-read : (s : List ℕ) → Bytes s → (n m : ℕ) (line : Range) (p q : List ℕ) → Reads s (Form n m line) → Places s p → Runs s q

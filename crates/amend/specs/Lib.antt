@@ -1,0 +1,6 @@
+pub mod Amending
+pub mod Fields
+pub mod Settling
+pub mod Writing
+pub mod Ending
+pub mod Laws
