@@ -97,8 +97,8 @@ module _ (s : List ℕ) (x y z : ℕ) {lent small : Lent} (short : Shorter lent 
             go (done q a says well free f) = (a, says, well, free, f)
 
         written-long : length t ≡ length s
-        written-long = let a = wrote .0 in let h = alike-trans (amended-alike (orderOf g) a) (written-alike g g-sound a) in
-            ap length (wrote .4) ∙ length-image (written a g) (written-wholes g g-sound a) ∙ ap₂ (lengthOf sizes) (sym (h .n)) (sym (h .m)) ∙ sym (length-image g (whole-runs sizes (omega arith) g g-sound)) ∙ g-long
+        written-long = let a = wrote .0 in let h = alike-trans (amended-alike (orderOf g) a) (written-alike g a) in
+            ap length (wrote .4) ∙ length-image (written a g) (written-wholes g (whole-runs sizes (omega arith) g g-sound) a) ∙ ap₂ (lengthOf sizes) (sym (h .n)) (sym (h .m)) ∙ sym (length-image g (whole-runs sizes (omega arith) g g-sound)) ∙ g-long
 
         module _ (more : List ℕ) where
           second-is : take (length s) (t ++ more) ≡ image sizes (written (wrote .0) g)

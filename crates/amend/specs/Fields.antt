@@ -22,7 +22,7 @@ use Rattle.wirings.specs.Same.{confirmed}
 
 -- ---- bytes that are no states are kept
 -- i is the place of a state
-abbrev State : ℕ → Type 0
+abbrev pub State : ℕ → Type 0
 State i = (r : ℕ) × (i ≡ 5 * r + 4)
 
 -- another list of run records with the same ends
@@ -30,10 +30,10 @@ pub record Ends (runs runs′ : List ℕ) : Type 0 where
   pub size : length runs′ ≡ length runs
   pub kept : (i : ℕ) → (State i → ⊥) → getD runs′ i 0 ≡ getD runs i 0
 
-set-ends : (runs : List ℕ) (r v : ℕ) → Ends runs (set runs (5 * r + 4) v)
+pub set-ends : (runs : List ℕ) (r v : ℕ) → Ends runs (set runs (5 * r + 4) v)
 set-ends runs r v = record { size = length-set runs (5 * r + 4) v; kept = λ i n. getD-set-other runs (5 * r + 4) i v 0 (λ e. n (r, e)) }
 
-restated-ends : (state : ℕ → ℕ) (k : ℕ) (runs : List ℕ) → Ends runs (restated state k runs)
+pub restated-ends : (state : ℕ → ℕ) (k : ℕ) (runs : List ℕ) → Ends runs (restated state k runs)
 unfolding restated
 restated-ends state zero runs = record { size = refl; kept = λ i n. refl }
 restated-ends state (suc k) runs =
@@ -47,7 +47,7 @@ module _ {runs runs′ : List ℕ} (e : Ends runs runs′) where
   same-v : (r : ℕ) → endV sizes runs′ r ≡ endV sizes runs r
   same-v r = ap₂ (λ (a b : ℕ). a + 256 * b) (e .kept (5 * r + 2) (λ h. omega (arith, h .1))) (e .kept (5 * r + 2 + 1) (λ h. omega (arith, h .1)))
 
-  same-m : runsIn sizes runs′ ≡ runsIn sizes runs
+  pub same-m : runsIn sizes runs′ ≡ runsIn sizes runs
   same-m = ap (λ (k : ℕ). (k + 4) / 5) (e .size)
 
 -- ---- no fault where states and line four have none
@@ -87,7 +87,7 @@ sound-as f g p e marks line sound = (
 -- ---- the confirmed form
 module _ (state : ℕ → ℕ) where
   -- the states of the first k runs, where there are k
-  restated-says : (k : ℕ) (runs : List ℕ) → 5 * k ≤ length runs → (r : ℕ) → r < k → stateOf sizes (restated state k runs) r ≡ state r
+  pub restated-says : (k : ℕ) (runs : List ℕ) → 5 * k ≤ length runs → (r : ℕ) → r < k → stateOf sizes (restated state k runs) r ≡ state r
   unfolding restated
   restated-says zero runs l r h = absurd (omega arith)
   restated-says (suc k) runs l r h =
@@ -121,41 +121,49 @@ set-says runs e v l r =
       | no n ↦ getD-set-other runs (5 * e + 4) (5 * r + 4) v 0 (λ q. omega (arith, q)) ∙ sym (put-there e v (stateOf sizes runs) r n)
     ]
 
-module _ (f : Fields) (sound : Clears (soundRows sizes f)) where
-  whole : length (f .runs) ≡ 5 * runsIn sizes (f .runs)
-  whole = whole-runs sizes (omega arith) f sound
+-- the form makes the amended order
+pub written-alike : (f : Fields) (a : Amendment) → Alike (amended a (orderOf f)) (orderOf (written a f))
+written-alike f (pin r) = let e = set-ends (f .runs) r 2 in record { n = refl; m = sym (same-m e); supply = λ x. refl; u = λ r. sym (same-u e r); v = λ r. sym (same-v e r) }
+written-alike f (strike r) = let e = set-ends (f .runs) r 0 in record { n = refl; m = sym (same-m e); supply = λ x. refl; u = λ r. sym (same-u e r); v = λ r. sym (same-v e r) }
+written-alike f (narrow a b) = record { n = refl; m = refl; supply = λ x. refl; u = λ r. refl; v = λ r. refl }
 
-  small : (e v : ℕ) → v ≤ 2 → e < runsIn sizes (f .runs) → (j : ℕ) → j < runsIn sizes (f .runs) → stateOf sizes (set (f .runs) (5 * e + 4) v) j ≤ 2
-  small e v b l j k = subst (λ (x : ℕ). x ≤ 2) (sym (set-says (f .runs) e v (omega (arith, whole)) j)) (marked-sound (orderOf f) e v b (order-sound f sound) .mark j k)
+pub written-low : (f : Fields) (a : Amendment) → amended a (orderOf f) .low ≡ written a f .low
+written-low f (pin r) = refl
+written-low f (strike r) = refl
+written-low f (narrow a b) = refl
 
-  -- the form makes the amended order
-  pub written-alike : (a : Amendment) → Alike (amended a (orderOf f)) (orderOf (written a f))
-  written-alike (pin r) = let e = set-ends (f .runs) r 2 in record { n = refl; m = sym (same-m e); supply = λ x. refl; u = λ r. sym (same-u e r); v = λ r. sym (same-v e r) }
-  written-alike (strike r) = let e = set-ends (f .runs) r 0 in record { n = refl; m = sym (same-m e); supply = λ x. refl; u = λ r. sym (same-u e r); v = λ r. sym (same-v e r) }
-  written-alike (narrow a b) = record { n = refl; m = refl; supply = λ x. refl; u = λ r. refl; v = λ r. refl }
+pub written-high : (f : Fields) (a : Amendment) → amended a (orderOf f) .high ≡ written a f .high
+written-high f (pin r) = refl
+written-high f (strike r) = refl
+written-high f (narrow a b) = refl
 
+module _ (f : Fields) (whole : length (f .runs) ≡ 5 * runsIn sizes (f .runs)) where
   pub written-states : (a : Amendment) → WellFormed (orderOf f) a → (r : ℕ) → amended a (orderOf f) .state r ≡ orderOf (written a f) .state r
   written-states (pin r) l j = sym (set-says (f .runs) r 2 (omega (arith, whole)) j)
   written-states (strike r) l j = sym (set-says (f .runs) r 0 (omega (arith, whole)) j)
   written-states (narrow a b) l j = refl
 
-  pub written-low : (a : Amendment) → amended a (orderOf f) .low ≡ written a f .low
-  written-low (pin r) = refl
-  written-low (strike r) = refl
-  written-low (narrow a b) = refl
+  pub written-wholes : (a : Amendment) → length (written a f .runs) ≡ 5 * runsIn sizes (written a f .runs)
+  written-wholes (pin r) = omega (arith, whole, set-ends (f .runs) r 2 .size, same-m (set-ends (f .runs) r 2))
+  written-wholes (strike r) = omega (arith, whole, set-ends (f .runs) r 0 .size, same-m (set-ends (f .runs) r 0))
+  written-wholes (narrow a b) = whole
 
-  pub written-high : (a : Amendment) → amended a (orderOf f) .high ≡ written a f .high
-  written-high (pin r) = refl
-  written-high (strike r) = refl
-  written-high (narrow a b) = refl
+-- and has no fault where a count is left
+module _ (f : Fields) (sound : Clears (soundRows sizes f)) where
+  small : (e v : ℕ) → v ≤ 2 → e < runsIn sizes (f .runs) → (j : ℕ) → j < runsIn sizes (f .runs) → stateOf sizes (set (f .runs) (5 * e + 4) v) j ≤ 2
+  small e v b l j k = subst (λ (x : ℕ). x ≤ 2) (sym (set-says (f .runs) e v (omega (arith, whole-runs sizes (omega arith) f sound)) j)) (marked-sound (orderOf f) e v b (order-sound f sound) .mark j k)
 
-  -- and has no fault where a count is left
   pub written-sound : (a : Amendment) → WellFormed (orderOf f) a → written a f .low ≤ written a f .high → Clears (soundRows sizes (written a f))
   written-sound (pin r) l line = sound-as f (written (pin r) f) refl (set-ends (f .runs) r 2) (λ j k. small r 2 (omega arith) l j k) line sound
   written-sound (strike r) l line = sound-as f (written (strike r) f) refl (set-ends (f .runs) r 0) (λ j k. small r 0 (omega arith) l j k) line sound
   written-sound (narrow a b) l line = sound-as f (written (narrow a b) f) refl (record { size = refl; kept = λ i n. refl }) (λ j k. sound .1 .1 .0 .before j k .state) line sound
 
-  pub written-wholes : (a : Amendment) → length (written a f .runs) ≡ 5 * runsIn sizes (written a f .runs)
-  written-wholes (pin r) = omega (arith, whole, set-ends (f .runs) r 2 .size, same-m (set-ends (f .runs) r 2))
-  written-wholes (strike r) = omega (arith, whole, set-ends (f .runs) r 0 .size, same-m (set-ends (f .runs) r 0))
-  written-wholes (narrow a b) = whole
+pub written-places : (a : Amendment) (f : Fields) → written a f .places ≡ f .places
+written-places (pin r) f = refl
+written-places (strike r) f = refl
+written-places (narrow a b) f = refl
+
+pub written-ends : (a : Amendment) (f : Fields) → Ends (f .runs) (written a f .runs)
+written-ends (pin r) f = set-ends (f .runs) r 2
+written-ends (strike r) f = set-ends (f .runs) r 0
+written-ends (narrow a b) f = record { size = refl; kept = λ i n. refl }

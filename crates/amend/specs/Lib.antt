@@ -4,3 +4,4 @@ pub mod Settling
 pub mod Writing
 pub mod Ending
 pub mod Laws
+pub mod Demand3

@@ -15,7 +15,7 @@ use Rattle.filter.specs.Filtered.{Lent, Left, Room, Accepted, confirmedFields, 
 use Rattle.filter.specs.Filtered.{Leaves as Filters}
 use Rattle.layout.specs.Image.{fields-whole, read-back}
 use Rattle.layout.specs.Layout.{sizes, runsIn, Fields, image}
-use Rattle.layout.specs.Laws.{fields-sound, counts}
+use Rattle.layout.specs.Laws.{fields-sound, whole-runs, counts}
 use Rattle.layout.specs.Rows.{fieldsOf, readRows, soundRows}
 use Rattle.wirings.specs.Amendments.{Amendment, pin, strike, narrow, WellFormed, Obeys, Clash, amended, amended-alike, amendment-cuts, clash-none, well-formed-as, obeys-as}
 use Rattle.wirings.specs.Confirmed.{Confirmed}
@@ -131,7 +131,7 @@ module _ (f : Fields) (sound : Clears (soundRows sizes f)) {state : ℕ → ℕ}
     -- the order of the form with the amendment written in is the amended order
     in-writing : Agree (amended a (orderOf (confirmedFields f state low high))) (orderOf (written a (confirmedFields f state low high)))
     in-writing = let g = confirmedFields f state low high in
-        agree-same (written-alike g still-sound a) (λ r l. written-states g still-sound a well r) (written-low g still-sound a) (written-high g still-sound a)
+        agree-same (written-alike g a) (λ r l. written-states g (whole-runs sizes (omega arith) g still-sound) a well r) (written-low g a) (written-high g a)
 
     -- its wirings are those of the form that obey
     pub obeying : (b : Wiring) → Lawful (orderOf f) b → Obeys (orderOf f) b a → Lawful (orderOf (written a (confirmedFields f state low high))) b
@@ -191,11 +191,11 @@ module _ (s : List ℕ) (x y z : ℕ) (lent : Lent) (clears : Clears (filterRows
         (p : Filters (image sizes (written a (confirmedFields (fieldsOf sizes s) state low high))) lent left) where
       as-written : fieldsOf sizes (image sizes (written a (confirmedFields (fieldsOf sizes s) state low high))) ≡ written a (confirmedFields (fieldsOf sizes s) state low high)
       as-written = fields-whole (written a (confirmedFields (fieldsOf sizes s) state low high))
-          (written-wholes (confirmedFields (fieldsOf sizes s) state low high) (still-sound (fieldsOf sizes s) sound c) a)
+          (written-wholes (confirmedFields (fieldsOf sizes s) state low high) (whole-runs sizes (omega arith) (confirmedFields (fieldsOf sizes s) state low high) (still-sound (fieldsOf sizes s) sound c)) a)
 
       room-there : Room (written a (confirmedFields (fieldsOf sizes s) state low high)) lent
       room-there = let e = same-wirings (fieldsOf sizes s) sound c .alike in let g = confirmedFields (fieldsOf sizes s) state low high in
-          let h = alike-trans (amended-alike (orderOf g) a) (written-alike g (still-sound (fieldsOf sizes s) sound c) a) in
+          let h = alike-trans (amended-alike (orderOf g) a) (written-alike g a) in
           room-as (fieldsOf sizes s) (written a g) (e .n ∙ h .n) (e .m ∙ h .m) room
 
       -- 14: the second filtering refused

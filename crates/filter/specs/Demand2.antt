@@ -16,10 +16,11 @@ use Rattle.filter.specs.Filtered.{Lent, Left, Room, laterRows, filterRow
 use Rattle.layout.specs.Layout.{sizes, word, runsIn, Fields, image, over}
 use Rattle.layout.specs.Laws.{fields-sound}
 use Rattle.layout.specs.Rows.{fieldsOf, readRows, soundRows}
+use Rattle.wirings.specs.Counted.{Sound}
 use Rattle.wirings.specs.OfForm.{orderOf, order-sound}
 use Rattle.wirings.specs.Same.{confirmed-one}
 use Rattle.wirings.specs.Theorem1.{orderRows, meets-of}
-use Rattle.wirings.specs.Wiring.{Wiring, Lawful}
+use Rattle.wirings.specs.Wiring.{Order, Wiring, Lawful}
 
 -- ---- confirmed exactly if a lawful wiring exists
 -- a confirmed form has one
@@ -27,19 +28,20 @@ pub confirmed-lawful : (s : List ℕ) (lent : Lent) (left : Left) → Leaves s l
 confirmed-lawful s lent left p c e =
     let a = cleared p (λ number k g. not-refused (sym e ∙ ap (λ (l : Left). l .reply) g)) .1 in (a .wiring, a .confirmed .first .lawful)
 
+-- where there is one, 9 to 11 do not refuse
+pub lawful-clears : (o : Order) → Sound o → (w : Wiring) → Lawful o w → Clears (orderRows o)
+lawful-clears o ok w h = let m = meets-of o ok w h in (
+  record { within = omega arith; before = m .open′; found = λ l. absurd (omega arith) },
+  (record { within = omega arith; before = m .fed; found = λ l. absurd (omega arith) }, (clear (record { few = m .few; enough = m .enough }), tt)),
+)
+
 -- a form that has one is confirmed
 pub lawful-confirmed : (s : List ℕ) (lent : Lent) (left : Left) → Clears (readRows sizes s) → Room (fieldsOf sizes s) lent → (w : Wiring) → Lawful (orderOf (fieldsOf sizes s)) w
     → Leaves s lent left → Accepted (fieldsOf sizes s) lent left
-lawful-confirmed s lent left read room w h p = settled-last (clears-join (readRows sizes s) (laterRows (fieldsOf sizes s) lent) read (clear room, rows)) p
+lawful-confirmed s lent left read room w h p = settled-last (clears-join (readRows sizes s) (laterRows (fieldsOf sizes s) lent) read (clear room, lawful-clears (orderOf (fieldsOf sizes s)) (order-sound (fieldsOf sizes s) sound) w h)) p
   where
     sound : Clears (soundRows sizes (fieldsOf sizes s))
     sound = fields-sound sizes (omega arith) s (fact (read .1 .1 .0)) read
-
-    rows : Clears (orderRows (orderOf (fieldsOf sizes s)))
-    rows = let m = meets-of (orderOf (fieldsOf sizes s)) (order-sound (fieldsOf sizes s) sound) w h in (
-      record { within = omega arith; before = m .open′; found = λ l. absurd (omega arith) },
-      (record { within = omega arith; before = m .fed; found = λ l. absurd (omega arith) }, (clear (record { few = m .few; enough = m .enough }), tt)),
-    )
 
 -- ---- the reply is one, and so is every byte
 pub restated-same : (f g : ℕ → ℕ) (k : ℕ) (runs : List ℕ) → ((r : ℕ) → r < k → f r ≡ g r) → restated f k runs ≡ restated g k runs
@@ -47,7 +49,7 @@ unfolding restated
 restated-same f g zero runs h = refl
 restated-same f g (suc k) runs h = ap₂ (λ (x : List ℕ) (v : ℕ). set x (5 * k + 4) v) (restated-same f g k runs (λ r l. h r (omega arith))) (h k (omega arith))
 
-written-one : {f g : ℕ → ℕ} {k : ℕ} {before a b : List ℕ} → Written f k before a → Written g k before b → ((j : ℕ) → j < k → f j ≡ g j) → a ≡ b
+pub written-one : {f g : ℕ → ℕ} {k : ℕ} {before a b : List ℕ} → Written f k before a → Written g k before b → ((j : ℕ) → j < k → f j ≡ g j) → a ≡ b
 written-one {k = k} {before} {a} {b} w v h =
     ext-getD 0 a b (w .size ∙ sym (v .size))
     (λ j l. elim (decLt j k) [ yes p ↦ w .says j p ∙ h j p ∙ sym (v .says j p) | no p ↦ w .rest j (omega arith) ∙ sym (v .rest j (omega arith)) ])
