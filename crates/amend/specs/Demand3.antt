@@ -8,11 +8,11 @@ use native.Mathlib.Decide.{ℕ-discrete}
 use native.Mathlib.Omega.{arith}
 use Rattle.amend.specs.Amending.{Says, pins, strikes, narrows, amendRows, written, Amended, Leaves}
 use Rattle.amend.specs.Fields.{State, Ends, written-wholes, restated-ends, restated-says, same-m, written-places, written-ends, states-are, confirmed-alike, written-alike, written-states, written-low, written-high, written-sound}
-use Rattle.amend.specs.Settling.{says-one, well-named, well-ordered, well-formed, still-sound, clears-back}
+use Rattle.amend.specs.Settling.{room-as, says-one, well-named, well-ordered, well-formed, still-sound, clears-back}
 use Rattle.answer.specs.Laws.{not-refused, cleared, settled-last, clears-join, clear, fact}
 use Rattle.answer.specs.Reply.{accepted, refused, Counts}
 use Rattle.answer.specs.Table.{Clears}
-use Rattle.filter.specs.Demand2.{lawful-clears, restated-same, written-one}
+use Rattle.filter.specs.Demand2.{lawful-clears, lawful-confirmed, restated-same, written-one}
 use Rattle.filter.specs.Filtered.{Lent, Left, Room, Accepted, restated, confirmedFields, bit, Written, laterRows, filterRows}
 use Rattle.filter.specs.Filtered.{Leaves as Filters}
 use Rattle.filter.specs.Laws.{length-restated}
@@ -21,7 +21,7 @@ use Rattle.layout.specs.Layout.{sizes, runsIn, stateOf, Fields, lengthOf, image
 use Rattle.layout.specs.Laws.{whole-runs}
 use Rattle.layout.specs.Rows.{fieldsOf, readRows, soundRows}
 use Rattle.wirings.specs.Alike.{Alike, alike-sym}
-use Rattle.wirings.specs.Amendments.{Amendment, pin, strike, narrow, WellFormed, AllWellFormed, Obeys, ObeysAll, Clash, amended, writtenIn, Permuted, amended-alike, clash-none, all-well-formed-as, obeys-all-as, obeys-permuted, well-formed-permuted, written-wirings}
+use Rattle.wirings.specs.Amendments.{Amendment, pin, strike, narrow, WellFormed, AllWellFormed, Obeys, ObeysAll, Clash, amended, writtenIn, Permuted, amended-alike, amendment-cuts, clash-none, all-well-formed-as, obeys-all-as, obeys-permuted, well-formed-permuted, written-wirings}
 use Rattle.wirings.specs.Amendments.{written-alike as written-in-alike, written-sound as written-in-sound}
 use Rattle.wirings.specs.Confirmed.{Mark, Confirmed}
 use Rattle.wirings.specs.Keyed.{Keys, Keyed, done, then, keyed-alike, keyed-stands, keyed-wirings, keyed-same, stops}
@@ -107,7 +107,7 @@ restate {o} e c = record {
   pinned-counted = counts-alike (λ r l h. (h .0, sym (e r l) ∙ h .1)) (λ r l h. (h .0, e r l ∙ h .1)) (c .pinned-counted);
 }
 
--- ---- a form on file that filtering leaves as it is
+-- ---- a form on file that filtering leaves as it is: what the filter writes
 pub record Settled-form (g : Fields) (w : Wiring) (segment : ℕ → ℕ) : Type 0 where
   pub sound : Clears (soundRows sizes g)
   pub confirmed : Confirmed (orderOf g) (orderOf g .state) (g .low) (g .high) w segment 0 0
@@ -119,6 +119,13 @@ spoken : (s : List ℕ) (lent : Lent) (left : Left) (a : Amendment) → Call s a
 spoken s lent left (pin r) k = (1, r, 0, pins refl refl, k)
 spoken s lent left (strike r) k = (2, r, 0, strikes refl refl, k)
 spoken s lent left (narrow a b) k = (3, a, b, narrows refl, k)
+
+pub filtered-settled : (f : Fields) (sound : Clears (soundRows sizes f)) {lent : Lent} {left : Left} (c : Accepted f lent left) → Settled-form (confirmedFields f (c .state) (c .low) (c .high)) (c .wiring) (c .segment)
+filtered-settled f sound c = record {
+  sound = still-sound f sound (c .confirmed);
+  confirmed = settled (orderOf f) (orderOf (confirmedFields f (c .state) (c .low) (c .high))) (order-sound f sound) (confirmed-alike f sound (c .state) (c .low) (c .high))
+      (restate (λ r l. sym (states-are f sound (c .state) (c .low) (c .high) r l)) (c .confirmed));
+}
 
 -- the order of a form with an amendment written in
 written-order : (g : Fields) → length (g .runs) ≡ 5 * runsIn sizes (g .runs) → (a : Amendment) → WellFormed (orderOf g) a → amended a (orderOf g) ≡ orderOf (written a g)
@@ -182,10 +189,7 @@ module _ (g : Fields) {w : Wiring} {segment : ℕ → ℕ} (t : Settled-form g w
 
   next-settled : Settled-form next (acc .wiring) (acc .segment)
   unfolding next h
-  next-settled = record {
-    sound = still-sound h h-sound (acc .confirmed);
-    confirmed = settled (orderOf h) (orderOf next) (order-sound h h-sound) next-alike stated;
-  }
+  next-settled = filtered-settled h h-sound acc
 
   keys : Keys (outcome g w segment) a (outcome next (acc .wiring) (acc .segment))
   unfolding next h
@@ -292,6 +296,15 @@ all-order (a ∷ L) g whole well =
     ap (writtenIn L) (written-order g whole a (well .0))
     ∙ all-order L (written a g) (written-wholes g whole a) (all-well-formed-as (alike-trans (amended-alike (orderOf g) a) (written-alike g a)) L (well .1))
 
+-- where a lawful wiring obeys them all, it is lawful with all written in, and that form has no fault
+all-sound : (L : List Amendment) (g : Fields) → Clears (soundRows sizes g) → AllWellFormed (orderOf g) L → (b : Wiring) → Lawful (orderOf g) b → ObeysAll (orderOf g) b L
+    → Clears (soundRows sizes (writtenAll L g)) × Lawful (orderOf (writtenAll L g)) b
+all-sound [] g sound well b h o = (sound, h)
+all-sound (a ∷ L) g sound well b h o =
+    let e = alike-trans (amended-alike (orderOf g) a) (written-alike g a) in
+    let l = subst (λ (p : Order). Lawful p b) (written-order g (whole-runs sizes (omega arith) g sound) a (well .0)) (amendment-cuts (orderOf g) b a (well .0) (λ q. clash-none (orderOf g) b a (well .0) q h (o .0)) .1 (h, o .0)) in
+    all-sound L (written a g) (written-sound g sound a (well .0) (omega (arith, l .enough, l .few))) (all-well-formed-as e L (well .1)) b l (obeys-all-as e b L (o .1))
+
 -- one filtering of the form with all written in
 at-once : (g : Fields) → Clears (soundRows sizes g) → (L : List Amendment) → AllWellFormed (orderOf g) L → {lent : Lent} {left : Left} {k : Counts}
     → Filters (image sizes (writtenAll L g)) lent left → left .reply ≡ accepted k → (y : Outcome) × Gives (writtenIn L (orderOf g)) y × Shows g y lent left
@@ -352,14 +365,24 @@ module _ (g : Fields) {w : Wiring} {segment : ℕ → ℕ} (t : Settled-form g w
       } in
       shows-one g (equal-as (alike-sym (keyed-alike k)) (same-confirmation (y .form) (writtenIn L x) (keyed-stands start k .sound) (written-in-sound L x (start .sound)) agree (keyed-stands start k .confirmed) (gives .confirmed))) s r
 
+  -- and that filtering is accepted
+  once-accepted : (b : Wiring) → Lawful (orderOf g) b → ObeysAll (orderOf g) b L → {lent : Lent} {q : Left} → Room g lent → Filters (image sizes (writtenAll L g)) lent q → (k : Counts) × (q .reply ≡ accepted k)
+  once-accepted b h o {lent} {q} room f =
+      let e = all-like L g in let x = writtenAll L g in
+      let (sound, lawful) = all-sound L g (t .sound) well b h o in
+      let back = sym (fields-back x sound) in
+      let there = room-as g x (sym (ap length (e .places))) (sym (same-m (e .ends))) room in
+      let c = lawful-confirmed (image sizes x) lent q (read-back x sound) (subst (λ (y : Fields). Room y lent) back there) b (subst (λ (y : Fields). Lawful (orderOf y) b) back lawful) f in
+      (record { struck = c .struck; pinned = c .pinned }, c .reply)
+
   -- For a confirmed form and well-formed amendments L, keyed in any order K, filtering after each. If some lawful wiring obeys them all, each is
   -- accepted, and the end is the form, wiring and segment numbers of filtering once with all of them written in; if none does, a refusal is met.
   pub demand-3 : (((b : Wiring) × Lawful (orderOf g) b × ObeysAll (orderOf g) b L)
       → (MeetsRefusal (image sizes g) K → ⊥)
-      × ((lent : Lent) (p q : Left) (k : Counts) → Accepts (image sizes g) K lent p → Filters (image sizes (writtenAll L g)) lent q → q .reply ≡ accepted k → p .lent ≡ q .lent))
+      × ((lent : Lent) (p q : Left) → Room g lent → Accepts (image sizes g) K lent p → Filters (image sizes (writtenAll L g)) lent q → ((k : Counts) × (q .reply ≡ accepted k)) × (p .lent ≡ q .lent)))
       × (((b : Wiring) → Lawful (orderOf g) b → ObeysAll (orderOf g) b L → ⊥) → (lent : Lent) (p : Left) → Accepts (image sizes g) K lent p → ⊥)
   demand-3 = (
-    λ (b, h, o). (never-refused g t refl (well-formed-permuted (orderOf g) pm well) b h (obeys-permuted (orderOf g) b pm .0 o), λ lent p q k a f ok. as-once b h o a f ok),
+    λ (b, h, o). (never-refused g t refl (well-formed-permuted (orderOf g) pm well) b h (obeys-permuted (orderOf g) b pm .0 o), λ lent p q room a f. let k = once-accepted b h o room f in (k, as-once b h o a f (k .1))),
     λ none lent p a. let (y, k, s) = ends-at g t refl a in let (b, h, o) = stops start k in none b h (obeys-permuted (orderOf g) b pm .1 o),
   )
 

@@ -149,7 +149,7 @@ clears-back [] more c = c
 clears-back (row ∷ rows) more (c, cs) = clears-back rows more cs
 
 -- forms with as many places and runs need the same room
-room-as : (g k : Fields) {lent : Lent} → length (g .places) ≡ length (k .places) → runsIn sizes (g .runs) ≡ runsIn sizes (k .runs) → Room g lent → Room k lent
+pub room-as : (g k : Fields) {lent : Lent} → length (g .places) ≡ length (k .places) → runsIn sizes (g .runs) ≡ runsIn sizes (k .runs) → Room g lent → Room k lent
 room-as g k n m r = record { form = omega (arith, r .form, n, m); wiring = omega (arith, r .wiring, m); segments = omega (arith, r .segments, n) }
 
 -- ---- the ways out once 1 to 11 are passed
