@@ -8,8 +8,8 @@ use native.Mathlib.Decide.{ℕ-discrete}
 use native.Mathlib.Omega.{arith}
 use Rattle.amend.specs.Amending.{Says, pins, strikes, narrows, amendRows, written, Amended, Leaves}
 use Rattle.amend.specs.Fields.{State, Ends, written-wholes, restated-ends, restated-says, same-m, written-places, written-ends, states-are, confirmed-alike, written-alike, written-states, written-low, written-high, written-sound}
-use Rattle.amend.specs.Settling.{room-as, says-one, well-named, well-ordered, well-formed, still-sound, clears-back}
-use Rattle.answer.specs.Laws.{not-refused, cleared, settled-last, clears-join, clear, fact}
+use Rattle.amend.specs.Settling.{room-as, says-one, well-named, well-ordered, well-formed, still-sound}
+use Rattle.answer.specs.Laws.{not-refused, cleared, settled-last, clears-join, clear, fact, clears-back}
 use Rattle.answer.specs.Reply.{accepted, refused, Counts}
 use Rattle.answer.specs.Table.{Clears}
 use Rattle.filter.specs.Demand2.{lawful-clears, lawful-confirmed, restated-same, written-one}

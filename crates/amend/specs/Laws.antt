@@ -4,10 +4,10 @@ use mathlib.Core.List.{List}
 use mathlib.Core.Path.{_≡_, ap, subst}
 use native.Mathlib.Omega.{arith}
 use Rattle.amend.specs.Amending.{Named, Ordered, written, Amended, amendRows, Leaves, Amends}
-use Rattle.amend.specs.Settling.{read-sound, says-one, well-formed, still-sound, same-wirings, clears-back}
+use Rattle.amend.specs.Settling.{read-sound, says-one, well-formed, still-sound, same-wirings}
 use Rattle.amend.specs.Fields.{written-sound}
 use Rattle.answer.specs.declared.Answer.{Answer}
-use Rattle.answer.specs.Laws.{settled-if, clears-front, fact}
+use Rattle.answer.specs.Laws.{settled-if, clears-front, fact, clears-back}
 use Rattle.answer.specs.Table.{Clears}
 use Rattle.filter.specs.Demand2.{restated-same, accepted-same, told-one}
 use Rattle.filter.specs.Filtered.{Lent, Left, Accepted, confirmedFields, laterRows, filterRows}

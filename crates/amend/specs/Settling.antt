@@ -1,13 +1,12 @@
 -- The ways out of an amendment, each as an outcome of the whole table.
 use Prim.Native.Nat.{ℕ, min, _+_, _≤_}
 use mathlib.Core.List.{List, [], _∷_, _++_}
-use mathlib.Core.Logic.{inl, inr}
 use mathlib.Core.Path.{_≡_, refl, sym, ap, subst, _∙_}
 use lib.ListN.{length}
 use native.Mathlib.Omega.{arith}
 use Rattle.amend.specs.Amending.{Says, pins, strikes, narrows, Run, Named, Ordered, Obeyed, amendRows, written, Amended, Leaves}
 use Rattle.amend.specs.Fields.{states-are, confirmed-alike, confirmed-fields-sound, written-alike, written-states, written-low, written-high, written-sound, written-wholes}
-use Rattle.answer.specs.Laws.{not-refused, first-alike, cleared, clears-front, onward, refuses, passes, ends, fact}
+use Rattle.answer.specs.Laws.{not-refused, cleared, clears-front, clears-back, onward, refuses, passes, ends, later, refusal-of, settled-as, fact}
 use Rattle.answer.specs.Reply.{Reply, accepted, refused, Counts}
 use Rattle.answer.specs.Table.{Row, whole, Clears, Outcome, Settled}
 use Rattle.filter.specs.Demand2.{lawful-confirmed}
@@ -25,24 +24,6 @@ use Rattle.wirings.specs.Same.{Agree, agree-sym, confirmed, confirmed-sound, ke
 use Rattle.wirings.specs.Standing.{alike-trans, agree-trans, agree-same}
 use Rattle.wirings.specs.Theorem1.{orderRows}
 use Rattle.wirings.specs.Wiring.{Order, Wiring, Lawful}
-
--- ---- tables: a row said otherwise, rows that are passed, and an outcome that is a refusal
-module _ {R : Type 0} (refusal : ℕ → ℕ → R) (K : R → Type 0) (r : R) where
-  outcome-as : {P Q : Type 0} (number : ℕ) (rest front : List Row) → (Clears front → P → Q) → (Clears front → Q → P) → Outcome refusal (front ++ (whole number P ∷ rest)) K r
-      → Outcome refusal (front ++ (whole number Q ∷ rest)) K r
-  outcome-as number rest [] to from (inl (k, f, e)) = inl (k, (first-alike (λ _ _ p. to tt p) (λ _ _ q. from tt q) (f .0), f .1), e)
-  outcome-as number rest [] to from (inr (c, p)) = inr (first-alike (λ _ _ p. to tt p) (λ _ _ q. from tt q) c, p)
-  outcome-as number rest (row ∷ front) to from (inl x) = inl x
-  outcome-as number rest (row ∷ front) to from (inr (c, p)) = inr (c, outcome-as number rest front (λ cs. to (c, cs)) (λ cs. from (c, cs)) p)
-
-  outcome-later : (rows more : List Row) → Clears rows → Outcome refusal more K r → Outcome refusal (rows ++ more) K r
-  outcome-later [] more c p = p
-  outcome-later (row ∷ rows) more (c, cs) p = inr (c, outcome-later rows more cs p)
-
-  outcome-refusal : (rows : List Row) → (K r → ⊥) → Outcome refusal rows K r → (number : ℕ) × (k : ℕ) × (r ≡ refusal number k)
-  outcome-refusal [] n p = absurd (n p)
-  outcome-refusal (row ∷ rows) n (inl (k, f, e)) = (row .number, k, e)
-  outcome-refusal (row ∷ rows) n (inr (c, p)) = outcome-refusal rows n p
 
 abbrev pub turned : Lent → Reply Counts → Left
 turned lent r = record { reply = r; lent = lent }
@@ -73,8 +54,7 @@ module _ (s : List ℕ) where
     }
 
     as-lent : {left : Left} → Filters s small left → Settled (λ number k. turned small (refused number k)) (filterRows s lent) (Accepted (fieldsOf sizes s) small) left
-    as-lent {left} p =
-        record { outcome = outcome-as (λ number k. turned small (refused number k)) (Accepted (fieldsOf sizes s) small) left 8 (orderRows (orderOf (fieldsOf sizes s))) (readRows sizes s) room-to room-from (p .outcome) }
+    as-lent p = settled-as 8 (readRows sizes s) (orderRows (orderOf (fieldsOf sizes s))) room-to room-from p
 
     -- refused: 1 to 11
     pub stopped : (x y z : ℕ) {left : Left} {i j : ℕ} → Filters s small left → left .reply ≡ refused i j → Leaves s x y z lent (turned lent (refused i j))
@@ -144,10 +124,6 @@ module _ (f : Fields) (sound : Clears (soundRows sizes f)) {state : ℕ → ℕ}
     pub sound-still : (b : Wiring) → Lawful (orderOf (written a (confirmedFields f state low high))) b → Clears (soundRows sizes (written a (confirmedFields f state low high)))
     sound-still b h = written-sound (confirmedFields f state low high) still-sound a well (omega (arith, h .enough, h .few))
 
-pub clears-back : (rows more : List Row) → Clears (rows ++ more) → Clears more
-clears-back [] more c = c
-clears-back (row ∷ rows) more (c, cs) = clears-back rows more cs
-
 -- forms with as many places and runs need the same room
 pub room-as : (g k : Fields) {lent : Lent} → length (g .places) ≡ length (k .places) → runsIn sizes (g .runs) ≡ runsIn sizes (k .runs) → Room g lent → Room k lent
 room-as g k n m r = record { form = omega (arith, r .form, n, m); wiring = omega (arith, r .wiring, m); segments = omega (arith, r .segments, n) }
@@ -163,16 +139,16 @@ module _ (s : List ℕ) (x y z : ℕ) (lent : Lent) (clears : Clears (filterRows
   room : Room (fieldsOf sizes s) lent
   room = fact (clears-back (readRows sizes s) (laterRows (fieldsOf sizes s) lent) clears .0)
 
-  later : {left : Left} → Settled (λ number k. turned lent (refused number k)) (amendRows (fieldsOf sizes s) x y z) (Amended (fieldsOf sizes s) x y z lent) left → Leaves s x y z lent left
-  later {left} p = record { outcome = outcome-later (λ number k. turned lent (refused number k)) (Amended (fieldsOf sizes s) x y z lent) left (filterRows s lent) (amendRows (fieldsOf sizes s) x y z) clears (p .outcome) }
+  past : {left : Left} → Settled (λ number k. turned lent (refused number k)) (amendRows (fieldsOf sizes s) x y z) (Amended (fieldsOf sizes s) x y z lent) left → Leaves s x y z lent left
+  past p = later (filterRows s lent) (amendRows (fieldsOf sizes s) x y z) clears p
 
   -- 12
   pub not-named : (Named (runsIn sizes (fieldsOf sizes s .runs)) x y z → ⊥) → Leaves s x y z lent (turned lent (refused 12 0))
-  not-named n = later (refuses n)
+  not-named n = past (refuses n)
 
   -- 13
   pub not-ordered : Named (runsIn sizes (fieldsOf sizes s .runs)) x y z → (Ordered x y z → ⊥) → Leaves s x y z lent (turned lent (refused 13 0))
-  not-ordered p n = later (passes p (refuses n))
+  not-ordered p n = past (passes p (refuses n))
 
   module _ {state : ℕ → ℕ} {low high : ℕ} {w : Wiring} {segment : ℕ → ℕ} {struck pinned : ℕ} (c : Confirmed (orderOf (fieldsOf sizes s)) state low high w segment struck pinned)
       (a : Amendment) (says : Says x y z a) (well : WellFormed (orderOf (confirmedFields (fieldsOf sizes s) state low high)) a) where
@@ -180,7 +156,7 @@ module _ (s : List ℕ) (x y z : ℕ) (lent : Lent) (clears : Clears (filterRows
     back = well-formed-as (agree-sym (same-wirings (fieldsOf sizes s) sound c) .alike) a well
 
     none-obeys : {left : Left} → left ≡ turned lent (refused 14 0) → (Obeyed (orderOf (fieldsOf sizes s)) x y z → ⊥) → Leaves s x y z lent left
-    none-obeys e n = later (passes (well-named (orderOf (fieldsOf sizes s)) says back) (passes (well-ordered (orderOf (fieldsOf sizes s)) says back) (subst (Settled _ _ _) (sym e) (refuses n))))
+    none-obeys e n = past (passes (well-named (orderOf (fieldsOf sizes s)) says back) (passes (well-ordered (orderOf (fieldsOf sizes s)) says back) (subst (Settled _ _ _) (sym e) (refuses n))))
 
     -- 14: the confirmed form has the other state
     pub clashes : Clash (orderOf (confirmedFields (fieldsOf sizes s) state low high)) a → Leaves s x y z lent (turned lent (refused 14 0))
@@ -205,7 +181,7 @@ module _ (s : List ℕ) (x y z : ℕ) (lent : Lent) (clears : Clears (filterRows
         where
           kept : left ≡ turned lent (left .reply)
           kept = let t = image sizes (written a (confirmedFields (fieldsOf sizes s) state low high)) in
-              let g = outcome-refusal (λ number k. turned lent (refused number k)) (Accepted (fieldsOf sizes t) lent) left (filterRows t lent) (λ k. not-refused (sym (k .reply) ∙ e)) (p .outcome) in
+              let g = refusal-of (λ k. not-refused (sym (k .reply) ∙ e)) p in
               g .2 ∙ ap (λ (l : Left). turned lent (l .reply)) (sym (g .2))
 
           lawful : (v : Wiring) → Lawful (orderOf (fieldsOf sizes s)) v → Obeys (orderOf (fieldsOf sizes s)) v a → Accepted (fieldsOf sizes (image sizes (written a (confirmedFields (fieldsOf sizes s) state low high)))) lent left
@@ -215,7 +191,7 @@ module _ (s : List ℕ) (x y z : ℕ) (lent : Lent) (clears : Clears (filterRows
 
       -- accepted
       pub finished : {k : Counts} → left .reply ≡ accepted k → Leaves s x y z lent left
-      finished {k} e = later (passes (well-named (orderOf (fieldsOf sizes s)) says back) (passes (well-ordered (orderOf (fieldsOf sizes s)) says back) (passes (let q = obeyed (fieldsOf sizes s) sound c a well free (last .wiring) (last .confirmed .first .lawful) in (a, says, last .wiring, q .0, q .1)) (ends
+      finished {k} e = past (passes (well-named (orderOf (fieldsOf sizes s)) says back) (passes (well-ordered (orderOf (fieldsOf sizes s)) says back) (passes (let q = obeyed (fieldsOf sizes s) sound c a well free (last .wiring) (last .confirmed .first .lawful) in (a, says, last .wiring, q .0, q .1)) (ends
           (record { amendment = a; says = says; state = state; low = low; high = high; wiring = w; segment = segment; struck = struck; pinned = pinned; confirmed = c; last = last })))))
         where
           last : Accepted (written a (confirmedFields (fieldsOf sizes s) state low high)) lent left

@@ -139,6 +139,10 @@ pub clears-front : (rows more : List Row) → Clears (rows ++ more) → Clears r
 clears-front [] more d = tt
 clears-front (row ∷ rows) more (c, cs) = (c, clears-front rows more cs)
 
+pub clears-back : (rows more : List Row) → Clears (rows ++ more) → Clears more
+clears-back [] more c = c
+clears-back (row ∷ rows) more (c, cs) = clears-back rows more cs
+
 -- ---- an outcome that no row refused
 module _ {R : Type 0} (refusal : ℕ → ℕ → R) (K : R → Type 0) (r : R) where
   outcome-cleared : (rows : List Row) → ((number k : ℕ) → r ≡ refusal number k → ⊥) → Outcome refusal rows K r → Clears rows × K r
@@ -150,9 +154,37 @@ module _ {R : Type 0} (refusal : ℕ → ℕ → R) (K : R → Type 0) (r : R) w
   outcome-clear [] c k = k
   outcome-clear (row ∷ rows) (c, cs) k = inr (c, outcome-clear rows cs k)
 
+  outcome-later : (rows more : List Row) → Clears rows → Outcome refusal more K r → Outcome refusal (rows ++ more) K r
+  outcome-later [] more c p = p
+  outcome-later (row ∷ rows) more (c, cs) p = inr (c, outcome-later rows more cs p)
+
+  outcome-refusal : (rows : List Row) → (K r → ⊥) → Outcome refusal rows K r → (number : ℕ) × (k : ℕ) × (r ≡ refusal number k)
+  outcome-refusal [] n p = absurd (n p)
+  outcome-refusal (row ∷ rows) n (inl (k, f, e)) = (row .number, k, e)
+  outcome-refusal (row ∷ rows) n (inr (c, p)) = outcome-refusal rows n p
+
+  outcome-as : {P Q : Type 0} (number : ℕ) (rest front : List Row) → (Clears front → P → Q) → (Clears front → Q → P)
+      → Outcome refusal (front ++ (whole number P ∷ rest)) K r → Outcome refusal (front ++ (whole number Q ∷ rest)) K r
+  outcome-as number rest [] to from (inl (k, f, e)) = inl (k, (first-alike (λ _ _ p. to tt p) (λ _ _ q. from tt q) (f .0), f .1), e)
+  outcome-as number rest [] to from (inr (c, p)) = inr (first-alike (λ _ _ p. to tt p) (λ _ _ q. from tt q) c, p)
+  outcome-as number rest (row ∷ front) to from (inl x) = inl x
+  outcome-as number rest (row ∷ front) to from (inr (c, p)) = inr (c, outcome-as number rest front (λ cs. to (c, cs)) (λ cs. from (c, cs)) p)
+
 pub cleared : {R : Type 0} {refusal : ℕ → ℕ → R} {rows : List Row} {K : R → Type 0} {r : R}
     → Settled refusal rows K r → ((number k : ℕ) → r ≡ refusal number k → ⊥) → Clears rows × K r
 cleared {rows = rows} p none = outcome-cleared _ _ _ rows none (p .outcome)
 
 pub all-clear : {R : Type 0} {refusal : ℕ → ℕ → R} {K : R → Type 0} {r : R} (rows : List Row) → Clears rows → K r → Settled refusal rows K r
 all-clear rows c k = record { outcome = outcome-clear _ _ _ rows c k }
+
+-- ---- rows that are passed, an outcome that can only be a refusal, and a row said otherwise
+pub later : {R : Type 0} {refusal : ℕ → ℕ → R} {K : R → Type 0} {r : R} (rows more : List Row) → Clears rows → Settled refusal more K r → Settled refusal (rows ++ more) K r
+later rows more c p = record { outcome = outcome-later _ _ _ rows more c (p .outcome) }
+
+pub refusal-of : {R : Type 0} {refusal : ℕ → ℕ → R} {rows : List Row} {K : R → Type 0} {r : R}
+    → (K r → ⊥) → Settled refusal rows K r → (number : ℕ) × (k : ℕ) × (r ≡ refusal number k)
+refusal-of {rows = rows} n p = outcome-refusal _ _ _ rows n (p .outcome)
+
+pub settled-as : {R : Type 0} {refusal : ℕ → ℕ → R} {K : R → Type 0} {r : R} {P Q : Type 0} (number : ℕ) (front rest : List Row)
+    → (Clears front → P → Q) → (Clears front → Q → P) → Settled refusal (front ++ (whole number P ∷ rest)) K r → Settled refusal (front ++ (whole number Q ∷ rest)) K r
+settled-as number front rest to from p = record { outcome = outcome-as _ _ _ number rest front to from (p .outcome) }
