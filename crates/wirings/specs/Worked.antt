@@ -11,6 +11,8 @@ use native.Mathlib.Omega.{arith}
 use Rattle.answer.specs.Laws.{not-refused, cleared, fact, decided}
 use Rattle.answer.specs.Reply.{Reply, accepted, refused}
 use Rattle.answer.specs.Table.{Settled, Decides, holds, fails}
+use Rattle.wirings.specs.Amended.{put}
+use Rattle.wirings.specs.Amendments.{Amendment, pin, strike, writtenIn, written-sound}
 use Rattle.wirings.specs.Chosen.{chosen, true-not-false}
 use Rattle.wirings.specs.Confirmed.{Mark, Lowest, Highest, SegmentNumber, Confirmed}
 use Rattle.wirings.specs.Counted.{Sound}
@@ -35,15 +37,17 @@ pub record Confirmation : Type 0 where
   pub struck : ℕ
   pub pinned : ℕ
 
--- supplies has 1 for each place with a supply; ends and states go by run
+-- supplies has 1 for each place with a supply; ends and states go by run; the amendments are written in
 pub record Entry : Type 0 where
   pub supplies : List ℕ
   pub ends : List (ℕ × ℕ)
   pub states : List ℕ
   pub low : ℕ
   pub high : ℕ
+  pub amendments : List Amendment
   pub outcome : Reply Confirmation
 
+-- the form before its amendments
 abbrev pub orderIn : Entry → Order
 orderIn e = record {
   n = length (e .supplies);
@@ -63,7 +67,7 @@ RightFor o (accepted c) =
     Confirmed o (λ r. getD (c .states) r 0) (c .low) (c .high) (λ r. eqb (getD (c .wiring) r 0) 1) (λ x. getD (c .segments) x 0) (c .struck) (c .pinned)
 
 abbrev pub Right : Entry → Type 0
-Right e = RightFor (orderIn e) (e .outcome)
+Right e = RightFor (writtenIn (e .amendments) (orderIn e)) (e .outcome)
 
 abbrev pub All : (Entry → Type 0) → List Entry → Type 0
 All P [] = Unit {0}
@@ -71,15 +75,42 @@ All P (e ∷ es) = P e × All P es
 
 -- ---- the worked forms
 abbrev given : List ℕ → List (ℕ × ℕ) → List ℕ → ℕ → ℕ → Reply Confirmation → Entry
-given supplies ends states low high outcome = record { supplies = supplies; ends = ends; states = states; low = low; high = high; outcome = outcome }
+given supplies ends states low high outcome = record { supplies = supplies; ends = ends; states = states; low = low; high = high; amendments = []; outcome = outcome }
+
+abbrev confirmation : List ℕ → ℕ → ℕ → List ℕ → List ℕ → ℕ → ℕ → Confirmation
+confirmation states low high wiring segments struck pinned = record { states = states; low = low; high = high; wiring = wiring; segments = segments; struck = struck; pinned = pinned }
 
 abbrev confirmed : List ℕ → ℕ → ℕ → List ℕ → List ℕ → ℕ → ℕ → Reply Confirmation
-confirmed states low high wiring segments struck pinned =
-    accepted (record { states = states; low = low; high = high; wiring = wiring; segments = segments; struck = struck; pinned = pinned })
+confirmed states low high wiring segments struck pinned = accepted (confirmation states low high wiring segments struck pinned)
 
--- form E with these states and line four
-abbrev formE : List ℕ → ℕ → ℕ → Reply Confirmation → Entry
-formE states low high outcome = given (1 ∷ 0 ∷ 0 ∷ 0 ∷ 1 ∷ []) ((0, 1) ∷ (1, 2) ∷ (0, 2) ∷ (2, 3) ∷ (3, 4) ∷ []) states low high outcome
+-- form E with these states and line four, and amendments written in
+abbrev formE : List ℕ → ℕ → ℕ → List Amendment → Confirmation → Entry
+formE states low high amendments outcome = record {
+  supplies = 1 ∷ 0 ∷ 0 ∷ 0 ∷ 1 ∷ [];
+  ends = (0, 1) ∷ (1, 2) ∷ (0, 2) ∷ (2, 3) ∷ (3, 4) ∷ [];
+  states = states;
+  low = low;
+  high = high;
+  amendments = amendments;
+  outcome = accepted outcome;
+}
+
+-- form E as it was confirmed, an amendment keyed to it, and what that gives
+abbrev keyed : Confirmation → Amendment → Confirmation → Entry
+keyed c a outcome = formE (c .states) (c .low) (c .high) (a ∷ []) outcome
+
+-- form E confirmed; then with run 3 struck, or run 1 pinned; then with both, in either order
+abbrev asSent : Confirmation
+asSent = confirmation (2 ∷ 1 ∷ 1 ∷ 1 ∷ 1 ∷ []) 1 2 (1 ∷ 1 ∷ 0 ∷ 1 ∷ 0 ∷ []) (0 ∷ 0 ∷ 0 ∷ 0 ∷ 4 ∷ []) 0 0
+
+abbrev struck3 : Confirmation
+struck3 = confirmation (2 ∷ 1 ∷ 1 ∷ 0 ∷ 2 ∷ []) 2 2 (1 ∷ 1 ∷ 0 ∷ 0 ∷ 1 ∷ []) (0 ∷ 0 ∷ 0 ∷ 3 ∷ 3 ∷ []) 0 1
+
+abbrev pinned1 : Confirmation
+pinned1 = confirmation (2 ∷ 2 ∷ 0 ∷ 1 ∷ 1 ∷ []) 1 2 (1 ∷ 1 ∷ 0 ∷ 1 ∷ 0 ∷ []) (0 ∷ 0 ∷ 0 ∷ 0 ∷ 4 ∷ []) 1 0
+
+abbrev both : ℕ → ℕ → Confirmation
+both struck pinned = confirmation (2 ∷ 2 ∷ 0 ∷ 0 ∷ 2 ∷ []) 2 2 (1 ∷ 1 ∷ 0 ∷ 0 ∷ 1 ∷ []) (0 ∷ 0 ∷ 0 ∷ 3 ∷ 3 ∷ []) struck pinned
 
 abbrev pub worked : List Entry
 worked =
@@ -104,13 +135,12 @@ worked =
     ∷ given (1 ∷ 1 ∷ 1 ∷ []) ((0, 1) ∷ (0, 2) ∷ (1, 2) ∷ []) (1 ∷ 1 ∷ 1 ∷ []) 3 3 (confirmed (0 ∷ 0 ∷ 0 ∷ []) 3 3 (0 ∷ 0 ∷ 0 ∷ []) (0 ∷ 1 ∷ 2 ∷ []) 3 0)
     ∷ given (1 ∷ 1 ∷ 1 ∷ []) ((0, 1) ∷ (0, 2) ∷ (1, 2) ∷ []) (1 ∷ 1 ∷ 1 ∷ []) 2 2 (confirmed (1 ∷ 1 ∷ 1 ∷ []) 2 2 (1 ∷ 0 ∷ 0 ∷ []) (0 ∷ 0 ∷ 2 ∷ []) 0 0)
     -- form E
-    ∷ formE (2 ∷ 1 ∷ 1 ∷ 1 ∷ 1 ∷ []) 1 9 (confirmed (2 ∷ 1 ∷ 1 ∷ 1 ∷ 1 ∷ []) 1 2 (1 ∷ 1 ∷ 0 ∷ 1 ∷ 0 ∷ []) (0 ∷ 0 ∷ 0 ∷ 0 ∷ 4 ∷ []) 0 0)
-    -- P12: run 3 struck on it, and then run 1 pinned
-    ∷ formE (2 ∷ 1 ∷ 1 ∷ 0 ∷ 1 ∷ []) 1 2 (confirmed (2 ∷ 1 ∷ 1 ∷ 0 ∷ 2 ∷ []) 2 2 (1 ∷ 1 ∷ 0 ∷ 0 ∷ 1 ∷ []) (0 ∷ 0 ∷ 0 ∷ 3 ∷ 3 ∷ []) 0 1)
-    ∷ formE (2 ∷ 2 ∷ 1 ∷ 0 ∷ 2 ∷ []) 2 2 (confirmed (2 ∷ 2 ∷ 0 ∷ 0 ∷ 2 ∷ []) 2 2 (1 ∷ 1 ∷ 0 ∷ 0 ∷ 1 ∷ []) (0 ∷ 0 ∷ 0 ∷ 3 ∷ 3 ∷ []) 1 0)
-    -- P12 in the other order
-    ∷ formE (2 ∷ 2 ∷ 1 ∷ 1 ∷ 1 ∷ []) 1 2 (confirmed (2 ∷ 2 ∷ 0 ∷ 1 ∷ 1 ∷ []) 1 2 (1 ∷ 1 ∷ 0 ∷ 1 ∷ 0 ∷ []) (0 ∷ 0 ∷ 0 ∷ 0 ∷ 4 ∷ []) 1 0)
-    ∷ formE (2 ∷ 2 ∷ 0 ∷ 0 ∷ 1 ∷ []) 1 2 (confirmed (2 ∷ 2 ∷ 0 ∷ 0 ∷ 2 ∷ []) 2 2 (1 ∷ 1 ∷ 0 ∷ 0 ∷ 1 ∷ []) (0 ∷ 0 ∷ 0 ∷ 3 ∷ 3 ∷ []) 0 1)
+    ∷ formE (2 ∷ 1 ∷ 1 ∷ 1 ∷ 1 ∷ []) 1 9 [] asSent
+    -- P12: strike 3, then pin 1; and pin 1, then strike 3
+    ∷ keyed asSent (strike 3) struck3
+    ∷ keyed struck3 (pin 1) (both 1 0)
+    ∷ keyed asSent (pin 1) pinned1
+    ∷ keyed pinned1 (strike 3) (both 0 1)
     ∷ []
 
 -- ---- a test of an entry
@@ -190,7 +220,7 @@ outcomeBy o (refused i j) (accepted c) = false
 outcomeBy o (accepted a) (refused number place) = false
 outcomeBy o (accepted a) (accepted c) = leb (o .low) (o .high) && confirmedBy o c
 
-outcome-right : (o : Order) → Sound o → (a : Reply (Unit {0})) → judged o ≡ a → (b : Reply Confirmation) → outcomeBy o a b ≡ true → RightFor o b
+pub outcome-right : (o : Order) → Sound o → (a : Reply (Unit {0})) → judged o ≡ a → (b : Reply Confirmation) → outcomeBy o a b ≡ true → RightFor o b
 outcome-right o ok (refused i j) p (refused number place) e =
     let h = decided (decides-both (decides-equal i number) (decides-equal j place)) e in
     subst (Settled refused (orderRows o) (λ a. a ≡ accepted tt)) (p ∙ ap (λ (k : ℕ). refused k j) (h .0) ∙ ap (refused number) (h .1)) (judged-settles o ok)
@@ -201,15 +231,17 @@ outcome-right o ok (accepted a) p (accepted c) e = let h = both-true (leb (o .lo
 
 unfoldable pub rightBy : Entry → Bool
 rightBy e = let o = orderIn e in
-    allBelow (λ x. leb (getD (e .supplies) x 0) 1) (length (e .supplies)) && soundBy o && outcomeBy o (judged o) (e .outcome)
+    let amended = writtenIn (e .amendments) o in
+    allBelow (λ x. leb (getD (e .supplies) x 0) 1) (length (e .supplies)) && soundBy o && outcomeBy amended (judged amended) (e .outcome)
 
 pub right-by : (e : Entry) → rightBy e ≡ true → Right e
 unfolding rightBy
 right-by e t =
     let o = orderIn e in
-    let h = both-true _ (outcomeBy o (judged o) (e .outcome)) t in let k = both-true _ (soundBy o) (h .0) in
+    let amended = writtenIn (e .amendments) o in
+    let h = both-true _ (outcomeBy amended (judged amended) (e .outcome)) t in let k = both-true _ (soundBy o) (h .0) in
     let bits = decided (decides-below _ (length (e .supplies)) (λ x. decides-most (getD (e .supplies) x 0) 1)) (k .0) in
-    outcome-right o (sound-by o (bit bits) (k .1)) (judged o) refl (e .outcome) (h .1)
+    outcome-right amended (written-sound (e .amendments) o (sound-by o (bit bits) (k .1))) (judged amended) refl (e .outcome) (h .1)
   where
     bit : ((x : ℕ) → x < length (e .supplies) → getD (e .supplies) x 0 ≤ 1) → (x : ℕ) → getD (e .supplies) x 0 ≤ 1
     bit f x = elim (decLt x (length (e .supplies))) [ yes l ↦ f x l | no l ↦ omega (arith, List·getD-eq-default (e .supplies) 0 {n = x} (omega arith)) ]
@@ -225,5 +257,5 @@ all-by (e ∷ es) t = let h = both-true (rightBy e) (allBy es) t in (right-by e 
 
 -- ---- every outcome of the table is right
 pub all-right : All Right worked
-unfolding allBy rightBy confirmedBy soundBy judged markOf scanned allBelow firstBad countOf member chosen labels moved pieces stock fedPieces when tally ℕ-discrete
+unfolding allBy rightBy confirmedBy soundBy judged markOf scanned allBelow firstBad countOf member chosen labels moved pieces stock fedPieces when tally put ℕ-discrete
 all-right = all-by worked refl
