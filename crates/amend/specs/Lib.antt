@@ -4,4 +4,5 @@ pub mod Settling
 pub mod Writing
 pub mod Ending
 pub mod Laws
+pub mod Rejected
 pub mod Demand3

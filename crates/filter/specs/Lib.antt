@@ -3,3 +3,4 @@ pub mod Laws
 pub mod Confirmed
 pub mod Settling
 pub mod Demand2
+pub mod Rejected
