@@ -6,17 +6,18 @@ use lib.ListN.{length, take, drop, length-append, length-take}
 use lib.Seq.{take-at}
 use native.Mathlib.Omega.{arith}
 use Rattle.amend.specs.Amending.{Says, Named, written, WritesIn, unnamed, reversed, clashing, done, Leaves}
-use Rattle.amend.specs.Fields.{confirmed-alike, written-alike, written-wholes}
-use Rattle.amend.specs.Settling.{Shorter, turned, read-sound, started, still-sound, not-named, not-ordered, clashes, unlawful, finished}
+use Rattle.amend.specs.Fields.{written-alike, written-wholes}
+use Rattle.amend.specs.Settling.{Shorter, turned, started, not-named, not-ordered, clashes, unlawful, finished}
 use Rattle.amend.specs.Writing.{OnFile, on-file}
-use Rattle.answer.specs.Laws.{clears-front, fact}
+use Rattle.answer.specs.Laws.{clears-front}
 use Rattle.answer.specs.Reply.{accepted, refused, Counts}
 use Rattle.answer.specs.Table.{Clears}
 use Rattle.filter.specs.Filtered.{Lent, Left, Accepted, confirmedFields, laterRows, filterRows}
 use Rattle.filter.specs.Filtered.{Leaves as Filters}
+use Rattle.filter.specs.Restated.{confirmed-alike, still-sound, image-long}
 use Rattle.layout.specs.Image.{length-image, fields-back}
 use Rattle.layout.specs.Layout.{sizes, runsIn, Fields, lengthOf, image}
-use Rattle.layout.specs.Laws.{places-length, runs-count, whole-runs}
+use Rattle.layout.specs.Laws.{fields-sound, whole-runs}
 use Rattle.layout.specs.Rows.{fieldsOf, readRows, soundRows}
 use Rattle.wirings.specs.Amendments.{Amendment, WellFormed, Clash, amended-alike}
 use Rattle.wirings.specs.OfForm.{orderOf}
@@ -29,8 +30,11 @@ module _ (s : List ℕ) (x y z : ℕ) {lent small : Lent} (short : Shorter lent 
   acc : Accepted (fieldsOf sizes s) small left
   acc = started s short p e .1
 
+  read : Clears (readRows sizes s)
+  read = clears-front (readRows sizes s) (laterRows (fieldsOf sizes s) lent) clears
+
   sound : Clears (soundRows sizes (fieldsOf sizes s))
-  sound = read-sound s (clears-front (readRows sizes s) (laterRows (fieldsOf sizes s) lent) clears)
+  sound = fields-sound sizes (omega arith) s read
 
   -- the confirmed form
   g : Fields
@@ -42,10 +46,7 @@ module _ (s : List ℕ) (x y z : ℕ) {lent small : Lent} (short : Shorter lent 
 
   g-long : length (image sizes g) ≡ length s
   unfolding g
-  g-long = let laid = fact (clears-front (readRows sizes s) (laterRows (fieldsOf sizes s) lent) clears .1 .1 .0) in
-      let a = confirmed-alike (fieldsOf sizes s) sound (acc .state) (acc .low) (acc .high) in
-      length-image g (whole-runs sizes (omega arith) g g-sound)
-      ∙ ap₂ (lengthOf sizes) (places-length sizes (omega arith) s laid) (sym (a .m) ∙ runs-count sizes (omega arith) s laid) ∙ sym (laid .total)
+  g-long = image-long s read acc
 
   module _ (rest : List ℕ) where
     draft-is : take (length s) (left .lent .form ++ rest) ≡ image sizes g

@@ -4,14 +4,16 @@ use mathlib.Core.List.{List}
 use mathlib.Core.Path.{_≡_, ap, subst}
 use native.Mathlib.Omega.{arith}
 use Rattle.amend.specs.Amending.{Named, Ordered, written, Amended, amendRows, Leaves, Amends}
-use Rattle.amend.specs.Settling.{read-sound, says-one, well-formed, still-sound, same-wirings}
+use Rattle.amend.specs.Settling.{says-one, well-formed}
 use Rattle.amend.specs.Fields.{written-sound}
 use Rattle.answer.specs.declared.Answer.{Answer}
 use Rattle.answer.specs.Laws.{settled-if, clears-front, fact, clears-back}
 use Rattle.answer.specs.Table.{Clears}
-use Rattle.filter.specs.Demand2.{restated-same, accepted-same, told-one}
+use Rattle.filter.specs.One.{restated-same, accepted-same, told-one}
 use Rattle.filter.specs.Filtered.{Lent, Left, Accepted, confirmedFields, laterRows, filterRows}
+use Rattle.filter.specs.Restated.{still-sound, same-wirings}
 use Rattle.layout.specs.Layout.{sizes, runsIn, Fields}
+use Rattle.layout.specs.Laws.{fields-sound}
 use Rattle.layout.specs.Rows.{fieldsOf, readRows, soundRows}
 use Rattle.wirings.specs.Amendments.{well-formed-as}
 use Rattle.wirings.specs.OfForm.{orderOf, order-sound}
@@ -35,7 +37,7 @@ module _ (f : Fields) (sound : Clears (soundRows sizes f)) (x y z : ℕ) (lent :
 pub leaves-one : (s : List ℕ) (x y z : ℕ) (lent : Lent) (p q : Left) → Leaves s x y z lent p → Leaves s x y z lent q → p ≡ q
 leaves-one s x y z lent p q a b =
     settled-if (λ c. let (named, later) = clears-back (filterRows s lent) (amendRows (fieldsOf sizes s) x y z) c in
-    amended-same (fieldsOf sizes s) (read-sound s (clears-front (readRows sizes s) (laterRows (fieldsOf sizes s) lent) (clears-front (filterRows s lent) (amendRows (fieldsOf sizes s) x y z) c))) x y z lent (fact named) (fact (later .0))) a b
+    amended-same (fieldsOf sizes s) (fields-sound sizes (omega arith) s (clears-front (readRows sizes s) (laterRows (fieldsOf sizes s) lent) (clears-front (filterRows s lent) (amendRows (fieldsOf sizes s) x y z) c))) x y z lent (fact named) (fact (later .0))) a b
 
 pub amends-one : (s : List ℕ) (x y z : ℕ) (form wiring segments : List ℕ) (a b : Answer) (f w g f′ w′ g′ : List ℕ)
     → Amends s x y z form wiring segments a f w g → Amends s x y z form wiring segments b f′ w′ g′ → (a ≡ b) × (f ≡ f′) × (w ≡ w′) × (g ≡ g′)

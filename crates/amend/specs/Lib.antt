@@ -5,4 +5,7 @@ pub mod Writing
 pub mod Ending
 pub mod Laws
 pub mod Rejected
+pub mod Demand1
+pub mod Keying
+pub mod Calls
 pub mod Demand3

@@ -5,13 +5,14 @@ use mathlib.Core.Path.{_≡_, refl, sym, ap, subst, _∙_}
 use lib.ListN.{length}
 use native.Mathlib.Omega.{arith}
 use Rattle.amend.specs.Amending.{Says, pins, strikes, narrows, Run, Named, Ordered, Obeyed, amendRows, written, Amended, Leaves}
-use Rattle.amend.specs.Fields.{states-are, confirmed-alike, confirmed-fields-sound, written-alike, written-states, written-low, written-high, written-sound, written-wholes}
+use Rattle.amend.specs.Fields.{written-alike, written-states, written-low, written-high, written-sound, written-wholes}
 use Rattle.answer.specs.Laws.{not-refused, cleared, clears-front, clears-back, onward, refuses, passes, ends, later, refusal-of, settled-as, fact}
 use Rattle.answer.specs.Reply.{Reply, accepted, refused, Counts}
 use Rattle.answer.specs.Table.{Row, whole, Clears, Outcome, Settled}
 use Rattle.filter.specs.Demand2.{lawful-confirmed}
 use Rattle.filter.specs.Filtered.{Lent, Left, Room, Accepted, confirmedFields, laterRows, filterRows}
 use Rattle.filter.specs.Filtered.{Leaves as Filters}
+use Rattle.filter.specs.Restated.{still-sound, same-wirings}
 use Rattle.layout.specs.Image.{fields-whole, read-back}
 use Rattle.layout.specs.Layout.{sizes, runsIn, Fields, image}
 use Rattle.layout.specs.Laws.{fields-sound, whole-runs, counts}
@@ -35,9 +36,6 @@ pub record Shorter (lent small : Lent) : Type 0 where
   pub segments : length (small .segments) ≡ min (length (lent .segments)) 256
 
 module _ (s : List ℕ) where
-  pub read-sound : Clears (readRows sizes s) → Clears (soundRows sizes (fieldsOf sizes s))
-  read-sound read = fields-sound sizes (omega arith) s (fact (read .1 .1 .0)) read
-
   module _ {lent small : Lent} (short : Shorter lent small) where
     room-to : Clears (readRows sizes s) → Room (fieldsOf sizes s) small → Room (fieldsOf sizes s) lent
     room-to read room = record {
@@ -47,7 +45,7 @@ module _ (s : List ℕ) where
     }
 
     room-from : Clears (readRows sizes s) → Room (fieldsOf sizes s) lent → Room (fieldsOf sizes s) small
-    room-from read room = let c = counts sizes (omega arith) (fieldsOf sizes s) (read-sound read) in record {
+    room-from read room = let c = counts sizes (omega arith) (fieldsOf sizes s) (fields-sound sizes (omega arith) s read) in record {
       form = omega (arith, room .form, short .form, c .places, c .runs);
       wiring = omega (arith, room .wiring, short .wiring, c .runs);
       segments = omega (arith, room .segments, short .segments, c .places);
@@ -95,34 +93,25 @@ well-formed o (narrows e) n h = h e
 -- ---- past the first filtering
 module _ (f : Fields) (sound : Clears (soundRows sizes f)) {state : ℕ → ℕ} {low high : ℕ} {w : Wiring} {segment : ℕ → ℕ} {struck pinned : ℕ}
     (c : Confirmed (orderOf f) state low high w segment struck pinned) where
-  line-left : low ≤ high
-  line-left = omega (arith, c .highest .all (c .lowest .by) (c .lowest .lawful), counts-one (c .lowest .counted) (c .lowest .lawful .counted))
-
-  -- the confirmed form has no fault, and the wirings of the form
-  pub still-sound : Clears (soundRows sizes (confirmedFields f state low high))
-  still-sound = confirmed-fields-sound f sound state low high (confirmed-sound (orderOf f) (order-sound f sound) c .mark) line-left
-
-  pub same-wirings : Agree (orderOf f) (orderOf (confirmedFields f state low high))
-  same-wirings = let e = confirmed-alike f sound state low high in
-      agree-trans (keeps (orderOf f) (order-sound f sound) c)
-      (agree-same (record { n = e .n; m = e .m; supply = e .supply; u = e .u; v = e .v }) (λ r l. sym (states-are f sound state low high r l)) refl refl)
+  same : Agree (orderOf f) (orderOf (confirmedFields f state low high))
+  same = same-wirings f sound c
 
   module _ (a : Amendment) (well : WellFormed (orderOf (confirmedFields f state low high)) a) (free : Clash (orderOf (confirmedFields f state low high)) a → ⊥) where
     -- the order of the form with the amendment written in is the amended order
     in-writing : Agree (amended a (orderOf (confirmedFields f state low high))) (orderOf (written a (confirmedFields f state low high)))
     in-writing = let g = confirmedFields f state low high in
-        agree-same (written-alike g a) (λ r l. written-states g (whole-runs sizes (omega arith) g still-sound) a well r) (written-low g a) (written-high g a)
+        agree-same (written-alike g a) (λ r l. written-states g (whole-runs sizes (omega arith) g (still-sound f sound c)) a well r) (written-low g a) (written-high g a)
 
     -- its wirings are those of the form that obey
     pub obeying : (b : Wiring) → Lawful (orderOf f) b → Obeys (orderOf f) b a → Lawful (orderOf (written a (confirmedFields f state low high))) b
-    obeying b h o = in-writing .to b (amendment-cuts _ b a well free .1 (same-wirings .to b h, obeys-as (same-wirings .alike) b a o))
+    obeying b h o = in-writing .to b (amendment-cuts _ b a well free .1 (same .to b h, obeys-as (same .alike) b a o))
 
     pub obeyed : (b : Wiring) → Lawful (orderOf (written a (confirmedFields f state low high))) b → Lawful (orderOf f) b × Obeys (orderOf f) b a
-    obeyed b h = let q = amendment-cuts _ b a well free .0 (in-writing .from b h) in (same-wirings .from b (q .0), obeys-as (agree-sym same-wirings .alike) b a (q .1))
+    obeyed b h = let q = amendment-cuts _ b a well free .0 (in-writing .from b h) in (same .from b (q .0), obeys-as (agree-sym same .alike) b a (q .1))
 
     -- where a wiring is left, it has no fault
     pub sound-still : (b : Wiring) → Lawful (orderOf (written a (confirmedFields f state low high))) b → Clears (soundRows sizes (written a (confirmedFields f state low high)))
-    sound-still b h = written-sound (confirmedFields f state low high) still-sound a well (omega (arith, h .enough, h .few))
+    sound-still b h = written-sound (confirmedFields f state low high) (still-sound f sound c) a well (omega (arith, h .enough, h .few))
 
 -- forms with as many places and runs need the same room
 pub room-as : (g k : Fields) {lent : Lent} → length (g .places) ≡ length (k .places) → runsIn sizes (g .runs) ≡ runsIn sizes (k .runs) → Room g lent → Room k lent
@@ -134,7 +123,7 @@ module _ (s : List ℕ) (x y z : ℕ) (lent : Lent) (clears : Clears (filterRows
   read = clears-front (readRows sizes s) (laterRows (fieldsOf sizes s) lent) clears
 
   sound : Clears (soundRows sizes (fieldsOf sizes s))
-  sound = read-sound s read
+  sound = fields-sound sizes (omega arith) s read
 
   room : Room (fieldsOf sizes s) lent
   room = fact (clears-back (readRows sizes s) (laterRows (fieldsOf sizes s) lent) clears .0)

@@ -9,7 +9,7 @@ use native.Mathlib.Decide.{decLt}
 use native.Mathlib.Nat.{le-refl}
 use native.Mathlib.Omega.{arith}
 use Rattle.answer.specs.Reply.{Reply, accepted, refused}
-use Rattle.answer.specs.Table.{First, Going, Row, each, whole, Fault, Clear, Clears, Outcome, Settled, Decides, holds, fails}
+use Rattle.answer.specs.Table.{First, Going, Row, each, whole, Fault, Clear, Clears, Outcome, Refuses, Settled, Decides, holds, fails}
 
 -- ---- an acceptance is no refusal, and a refusal is the same beside values of any kind
 pub not-refused : {A : Type 0} {a : A} {n k : ℕ} → _≡_ {A = Reply A} (accepted a) (refused n k) → ⊥
@@ -154,6 +154,11 @@ module _ {R : Type 0} (refusal : ℕ → ℕ → R) (K : R → Type 0) (r : R) w
   outcome-clear [] c k = k
   outcome-clear (row ∷ rows) (c, cs) k = inr (c, outcome-clear rows cs k)
 
+  outcome-either : (rows : List Row) → Outcome refusal rows K r → ((number : ℕ) × (place : ℕ) × Refuses rows number place × (r ≡ refusal number place)) ⊎ (Clears rows × K r)
+  outcome-either [] p = inr (tt, p)
+  outcome-either (row ∷ rows) (inl (k, f, e)) = inl (row .number, k, inl (refl, f), e)
+  outcome-either (row ∷ rows) (inr (c, p)) = ⊎-elim (λ (i, k, f, e). inl (i, k, inr (c, f), e)) (λ (cs, k). inr ((c, cs), k)) (outcome-either rows p)
+
   outcome-later : (rows more : List Row) → Clears rows → Outcome refusal more K r → Outcome refusal (rows ++ more) K r
   outcome-later [] more c p = p
   outcome-later (row ∷ rows) more (c, cs) p = inr (c, outcome-later rows more cs p)
@@ -176,6 +181,11 @@ cleared {rows = rows} p none = outcome-cleared _ _ _ rows none (p .outcome)
 
 pub all-clear : {R : Type 0} {refusal : ℕ → ℕ → R} {K : R → Type 0} {r : R} (rows : List Row) → Clears rows → K r → Settled refusal rows K r
 all-clear rows c k = record { outcome = outcome-clear _ _ _ rows c k }
+
+-- ---- an outcome is a refusal with the first fault of the table, or the last word where it has none
+pub either : {R : Type 0} {refusal : ℕ → ℕ → R} {rows : List Row} {K : R → Type 0} {r : R}
+    → Settled refusal rows K r → ((number : ℕ) × (place : ℕ) × Refuses rows number place × (r ≡ refusal number place)) ⊎ (Clears rows × K r)
+either {rows = rows} p = outcome-either _ _ _ rows (p .outcome)
 
 -- ---- rows that are passed, an outcome that can only be a refusal, and a row said otherwise
 pub later : {R : Type 0} {refusal : ℕ → ℕ → R} {K : R → Type 0} {r : R} (rows more : List Row) → Clears rows → Settled refusal more K r → Settled refusal (rows ++ more) K r

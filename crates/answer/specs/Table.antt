@@ -49,6 +49,11 @@ abbrev pub Clears : List Row → Type 0
 Clears [] = Unit {0}
 Clears (row ∷ rows) = Clear row × Clears rows
 
+-- the table refuses with a number at a place: no row before has a fault, and this is the first of the row with that number
+abbrev pub Refuses : List Row → ℕ → ℕ → Type 0
+Refuses [] number place = ⊥
+Refuses (row ∷ rows) number place = ((number ≡ row .number) × Fault row place) ⊎ (Clear row × Refuses rows number place)
+
 -- what a contract promises of r
 pub record Settled {R : Type 0} (refusal : ℕ → ℕ → R) (rows : List Row) (K : R → Type 0) (r : R) : Type 0 where
   pub outcome : Outcome refusal rows K r

@@ -4,3 +4,4 @@ pub mod Ready
 pub mod Judging
 pub mod Concluded
 pub mod Laws
+pub mod One

@@ -41,7 +41,7 @@ module _ {s : List ℕ} {n m low high : ℕ} (small : Bytes s) (v : Valid s n m 
   m-runs = runs-count sizes (omega arith) s laid ∙ sym (v .runs)
 
   wholes : length (fieldsOf sizes s .runs) ≡ 5 * runsIn sizes (fieldsOf sizes s .runs)
-  wholes = whole-runs sizes (omega arith) (fieldsOf sizes s) (fields-sound sizes (omega arith) s laid (v .clears))
+  wholes = whole-runs sizes (omega arith) (fieldsOf sizes s) (fields-sound sizes (omega arith) s (v .clears))
 
   before-runs : List ℕ
   before-runs = head (fieldsOf sizes s) ++ fieldsOf sizes s .places

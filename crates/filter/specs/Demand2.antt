@@ -1,24 +1,25 @@
--- Demand 2: a well-formed form with buffers long enough is confirmed exactly if a lawful wiring exists; and the filter's reply, with every lent byte, is one.
-use Prim.Native.Nat.{ℕ, zero, suc, _+_, _*_, _≤_, _<_}
-use mathlib.Core.Bool.{Bool}
+-- Demand 2: a form with buffers long enough is confirmed exactly if a lawful wiring exists; in the form that is written then, a possible run is struck
+-- exactly if no lawful wiring uses it and fixed exactly if all do, and line four runs from the smallest to the largest count of a lawful wiring.
+use Prim.Native.Nat.{ℕ, _<_}
+use mathlib.Core.Bool.{true, false}
 use mathlib.Core.List.{List}
-use mathlib.Core.Path.{_≡_, refl, sym, ap, ap₂, _∙_}
-use lib.ListN.{length, getD, set}
-use lib.Seq.{ext-getD}
-use native.Mathlib.Decide.{decLt}
+use mathlib.Core.Logic.{_↔_}
+use mathlib.Core.Path.{_≡_, sym, ap, subst, _∙_}
+use lib.ListN.{length, take}
 use native.Mathlib.Omega.{arith}
-use Rattle.answer.specs.declared.Answer.{Answer}
-use Rattle.answer.specs.declared.Answer.the-variants.{Accepted as Yes, Refused as No}
-use Rattle.answer.specs.Laws.{not-refused, accepted-one, settled-if, settled-last, cleared, clears-join, clears-front, clear, fact}
-use Rattle.answer.specs.Reply.{Reply, accepted, refused, Counts, told}
+use Rattle.answer.specs.Laws.{not-refused, settled-last, cleared, clears-join, clear}
+use Rattle.answer.specs.Reply.{accepted, Counts}
 use Rattle.answer.specs.Table.{Clears}
-use Rattle.filter.specs.Filtered.{Lent, Left, Room, laterRows, filterRows, restated, confirmedFields, bit, Written, Accepted, Leaves, Filters}
-use Rattle.layout.specs.Layout.{sizes, word, runsIn, Fields, image, over}
+use Rattle.filter.specs.Filtered.{Lent, Left, Room, laterRows, confirmedFields, Accepted, Leaves}
+use Rattle.filter.specs.Restated.{states-are, still-sound, form-left}
+use Rattle.layout.specs.Image.{fields-back}
+use Rattle.layout.specs.Layout.{sizes, stateOf, Fields}
 use Rattle.layout.specs.Laws.{fields-sound}
-use Rattle.layout.specs.Rows.{fieldsOf, readRows, soundRows}
+use Rattle.layout.specs.Rows.{fieldsOf, readRows}
+use Rattle.wirings.specs.Chosen.{true-not-false}
+use Rattle.wirings.specs.Confirmed.{Never, Always, Mark, kept, struck, pinned, stays, Lowest, Highest}
 use Rattle.wirings.specs.Counted.{Sound}
 use Rattle.wirings.specs.OfForm.{orderOf, order-sound}
-use Rattle.wirings.specs.Same.{confirmed-one}
 use Rattle.wirings.specs.Theorem1.{orderRows, meets-of}
 use Rattle.wirings.specs.Wiring.{Order, Wiring, Lawful}
 
@@ -38,46 +39,59 @@ lawful-clears o ok w h = let m = meets-of o ok w h in (
 -- a form that has one is confirmed
 pub lawful-confirmed : (s : List ℕ) (lent : Lent) (left : Left) → Clears (readRows sizes s) → Room (fieldsOf sizes s) lent → (w : Wiring) → Lawful (orderOf (fieldsOf sizes s)) w
     → Leaves s lent left → Accepted (fieldsOf sizes s) lent left
-lawful-confirmed s lent left read room w h p = settled-last (clears-join (readRows sizes s) (laterRows (fieldsOf sizes s) lent) read (clear room, lawful-clears (orderOf (fieldsOf sizes s)) (order-sound (fieldsOf sizes s) sound) w h)) p
+lawful-confirmed s lent left read room w h p = let f = fieldsOf sizes s in
+    settled-last (clears-join (readRows sizes s) (laterRows f lent) read (clear room, lawful-clears (orderOf f) (order-sound f (fields-sound sizes (omega arith) s read)) w h)) p
+
+-- ---- a possible run: struck exactly if no lawful wiring uses it, fixed exactly if all do
+exactly : (o : Order) (r : ℕ) {state : ℕ} (w : Wiring) → Lawful o w → o .state r ≡ 1 → Mark o r state → ((state ≡ 0) ↔ Never o r) × ((state ≡ 2) ↔ Always o r)
+exactly o r w h possible (kept n e) = absurd (n possible)
+exactly o r w h possible (struck p n e) = ((λ _. n, λ _. e), (λ q. absurd (omega arith), λ a. absurd (n w h (a w h))))
+exactly o r w h possible (pinned p a e) = ((λ q. absurd (omega arith), λ n. absurd (n w h (a w h))), (λ _. a, λ _. e))
+exactly o r w h possible (stays p s t e) =
+    ((λ q. absurd (omega arith), λ n. absurd (n (s .0) (s .1) (s .2))), (λ q. absurd (omega arith), λ a. absurd (true-not-false (sym (a (t .0) (t .1)) ∙ t .2))))
+
+-- ---- demand 2: of an image that 1 to 7 pass, with the lawful wirings of its order
+pub record Demand2 (s : List ℕ) (left : Left) : Type 0 where
+  -- confirmed exactly if a lawful wiring exists
+  pub confirmed : ((c : Counts) × (left .reply ≡ accepted c)) ↔ ((w : Wiring) × Lawful (orderOf (fieldsOf sizes s)) w)
+  -- and then, of the form that stands at the start of the form buffer
+  pub struck : {c : Counts} → left .reply ≡ accepted c → (r : ℕ) → r < orderOf (fieldsOf sizes s) .m → orderOf (fieldsOf sizes s) .state r ≡ 1
+      → (orderOf (fieldsOf sizes (take (length s) (left .lent .form))) .state r ≡ 0) ↔ Never (orderOf (fieldsOf sizes s)) r
+  pub pinned : {c : Counts} → left .reply ≡ accepted c → (r : ℕ) → r < orderOf (fieldsOf sizes s) .m → orderOf (fieldsOf sizes s) .state r ≡ 1
+      → (orderOf (fieldsOf sizes (take (length s) (left .lent .form))) .state r ≡ 2) ↔ Always (orderOf (fieldsOf sizes s)) r
+  pub lowest : {c : Counts} → left .reply ≡ accepted c → Lowest (orderOf (fieldsOf sizes s)) (fieldsOf sizes (take (length s) (left .lent .form)) .low)
+  pub highest : {c : Counts} → left .reply ≡ accepted c → Highest (orderOf (fieldsOf sizes s)) (fieldsOf sizes (take (length s) (left .lent .form)) .high)
+
+pub demand-2 : (s : List ℕ) (lent : Lent) (left : Left) → Clears (readRows sizes s) → Room (fieldsOf sizes s) lent → Leaves s lent left → Demand2 s left
+demand-2 s lent left read room p = record {
+  confirmed = (
+    λ (c, e). confirmed-lawful s lent left p c e,
+    λ (w, h). let a = lawful-confirmed s lent left read room w h p in (record { struck = a .struck; pinned = a .pinned }, a .reply),
+  );
+  struck = λ e r l possible. mark e r l possible .0;
+  pinned = λ e r l possible. mark e r l possible .1;
+  lowest = λ e. let a = accepted-by e in subst (λ (g : Fields). Lowest o (g .low)) (sym (form-is a)) (a .confirmed .lowest);
+  highest = λ e. let a = accepted-by e in subst (λ (g : Fields). Highest o (g .high)) (sym (form-is a)) (a .confirmed .highest);
+}
   where
-    sound : Clears (soundRows sizes (fieldsOf sizes s))
-    sound = fields-sound sizes (omega arith) s (fact (read .1 .1 .0)) read
+    f : Fields
+    f = fieldsOf sizes s
 
--- ---- the reply is one, and so is every byte
-pub restated-same : (f g : ℕ → ℕ) (k : ℕ) (runs : List ℕ) → ((r : ℕ) → r < k → f r ≡ g r) → restated f k runs ≡ restated g k runs
-unfolding restated
-restated-same f g zero runs h = refl
-restated-same f g (suc k) runs h = ap₂ (λ (x : List ℕ) (v : ℕ). set x (5 * k + 4) v) (restated-same f g k runs (λ r l. h r (omega arith))) (h k (omega arith))
+    o : Order
+    o = orderOf (fieldsOf sizes s)
 
-pub written-one : {f g : ℕ → ℕ} {k : ℕ} {before a b : List ℕ} → Written f k before a → Written g k before b → ((j : ℕ) → j < k → f j ≡ g j) → a ≡ b
-written-one {k = k} {before} {a} {b} w v h =
-    ext-getD 0 a b (w .size ∙ sym (v .size))
-    (λ j l. elim (decLt j k) [ yes p ↦ w .says j p ∙ h j p ∙ sym (v .says j p) | no p ↦ w .rest j (omega arith) ∙ sym (v .rest j (omega arith)) ])
+    accepted-by : {c : Counts} → left .reply ≡ accepted c → Accepted (fieldsOf sizes s) lent left
+    accepted-by e = cleared p (λ number k g. not-refused (sym e ∙ ap (λ (l : Left). l .reply) g)) .1
 
-pub accepted-same : (f : Fields) → Clears (soundRows sizes f) → (lent : Lent) (x y : Left) → Accepted f lent x → Accepted f lent y → x ≡ y
-accepted-same f sound lent x y a b =
-    let (e, s, t) = confirmed-one (orderOf f) (order-sound f sound) (a .confirmed) (b .confirmed) in
-    λ i. record {
-      reply = (a .reply ∙ (λ j. accepted (record { struck = s j; pinned = t j })) ∙ sym (b .reply)) i;
-      lent = record {
-        form = (a .form ∙ (λ j. over (image sizes (record { places = f .places; runs = restated-same (a .state) (b .state) (runsIn sizes (f .runs)) (f .runs) (e .states) j; low = e .lows j; high = e .highs j })) (lent .form)) ∙ sym (b .form)) i;
-        wiring = written-one (a .wired) (b .wired) (λ r l. ap bit (e .wirings r l)) i;
-        segments = written-one (a .numbered) (b .numbered) (e .segments) i;
-      };
-    }
+    form-is : (a : Accepted (fieldsOf sizes s) lent left) → fieldsOf sizes (take (length s) (left .lent .form)) ≡ confirmedFields (fieldsOf sizes s) (a .state) (a .low) (a .high)
+    form-is a = ap (fieldsOf sizes) (form-left s read a)
+        ∙ fields-back (confirmedFields (fieldsOf sizes s) (a .state) (a .low) (a .high)) (still-sound (fieldsOf sizes s) (fields-sound sizes (omega arith) s read) (a .confirmed))
 
-pub leaves-one : (s : List ℕ) (lent : Lent) (x y : Left) → Leaves s lent x → Leaves s lent y → x ≡ y
-leaves-one s lent x y p q =
-    settled-if (λ c. let read = clears-front (readRows sizes s) (laterRows (fieldsOf sizes s) lent) c in accepted-same (fieldsOf sizes s) (fields-sound sizes (omega arith) s (fact (read .1 .1 .0)) read) lent) p q
-
-pub told-one : (a b : Answer) → told a ≡ told b → a ≡ b
-told-one (Yes s p) (Yes s′ p′) e = let h = accepted-one e in λ i. Yes (h i .struck) (h i .pinned)
-told-one (Yes s p) (No i j) e = absurd (not-refused e)
-told-one (No i j) (Yes s p) e = absurd (not-refused (sym e))
-told-one (No i j) (No i′ j′) e = cc
-
-pub filters-one : (s form wiring segments : List ℕ) (a b : Answer) (f w g f′ w′ g′ : List ℕ) → Filters s form wiring segments a f w g → Filters s form wiring segments b f′ w′ g′
-    → (a ≡ b) × (f ≡ f′) × (w ≡ w′) × (g ≡ g′)
-filters-one s form wiring segments a b f w g f′ w′ g′ p q =
-    let e = leaves-one s (record { form = form; wiring = wiring; segments = segments }) _ _ p q in
-    (told-one a b (ap (λ (l : Left). l .reply) e), ap (λ (l : Left). l .lent .form) e, ap (λ (l : Left). l .lent .wiring) e, ap (λ (l : Left). l .lent .segments) e)
+    mark : {c : Counts} → left .reply ≡ accepted c → (r : ℕ) → r < orderOf (fieldsOf sizes s) .m → orderOf (fieldsOf sizes s) .state r ≡ 1
+        → ((orderOf (fieldsOf sizes (take (length s) (left .lent .form))) .state r ≡ 0) ↔ Never (orderOf (fieldsOf sizes s)) r)
+        × ((orderOf (fieldsOf sizes (take (length s) (left .lent .form))) .state r ≡ 2) ↔ Always (orderOf (fieldsOf sizes s)) r)
+    mark e r l possible = let a = accepted-by e in
+        exactly (orderOf (fieldsOf sizes s)) r (a .wiring) (a .confirmed .first .lawful) possible
+        (subst (Mark (orderOf (fieldsOf sizes s)) r)
+        (sym (ap (λ (g : Fields). stateOf sizes (g .runs) r) (form-is a) ∙ states-are (fieldsOf sizes s) (fields-sound sizes (omega arith) s read) (a .state) (a .low) (a .high) r l))
+        (a .confirmed .marks r l))

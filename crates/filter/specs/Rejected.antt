@@ -6,7 +6,7 @@ use mathlib.Core.Path.{_≡_, refl, sym, ap, _∙_}
 use lib.ListN.{length, getD}
 use native.Mathlib.Decide.{ℕ-discrete}
 use native.Mathlib.Omega.{arith}
-use Rattle.answer.specs.Laws.{not-refused, accepted-one, clear, fact}
+use Rattle.answer.specs.Laws.{not-refused, accepted-one, clear}
 use Rattle.answer.specs.Reply.{accepted, refused, Counts}
 use Rattle.answer.specs.Table.{Clears}
 use Rattle.filter.specs.Demand2.{lawful-confirmed}
@@ -71,7 +71,7 @@ two-read k = (
     run (suc r) l = absurd (omega arith)
 
 two-sound : (k : ℕ) → Sound (orderTwo k)
-two-sound k = order-sound (fieldsOf sizes (two k)) (fields-sound sizes (omega arith) (two k) (fact (two-read k .1 .1 .0)) (two-read k))
+two-sound k = order-sound (fieldsOf sizes (two k)) (fields-sound sizes (omega arith) (two k) (two-read k))
 
 abbrev asStruck : Confirmation
 asStruck = record { states = 0 ∷ []; low = 2; high = 2; wiring = 0 ∷ []; segments = 0 ∷ 1 ∷ []; struck = 1; pinned = 0 }

@@ -65,7 +65,7 @@ fields-taken {s} {n} {m} v =
 
 pub taken-sound : {s : List ℕ} {n m low high : ℕ} → Valid s n m low high
     → Clears (soundRows sizes (record { places = taken sizes s n m .places; runs = taken sizes s n m .runs; low = low; high = high }))
-taken-sound {s} v = subst (λ (f : Fields). Clears (soundRows sizes f)) (sym (fields-taken v)) (fields-sound sizes (omega arith) s (fact (v .clears .1 .1 .0)) (v .clears))
+taken-sound {s} v = subst (λ (f : Fields). Clears (soundRows sizes f)) (sym (fields-taken v)) (fields-sound sizes (omega arith) s (v .clears))
 
 pub room-as : {s : List ℕ} {n m low high : ℕ} (lent : Lent) → Bytes s → Valid s n m low high
     → (lengthOf sizes n m ≤ length (lent .form)) × (m ≤ length (lent .wiring)) × (n ≤ length (lent .segments)) → Room (fieldsOf sizes s) lent

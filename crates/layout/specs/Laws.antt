@@ -75,12 +75,6 @@ module _ (z : Sizes) (sized : 0 < z .run) where
     pub runs-count : runsIn z (fieldsOf z s .runs) ≡ word s 12
     runs-count = runs-in (fieldsOf z s .runs) (word s 12) (length-part s (runsAt z (word s 6)) (z .run * word s 12) (omega arith))
 
-    -- the fields of an image that is read are sound
-    pub fields-sound : Clears (readRows z s) → Clears (soundRows z (fieldsOf z s))
-    fields-sound c =
-        subst₂ (λ (n m : ℕ). Clears (whole 2 (Numbers n m) ∷ fieldRows z n m (fieldsOf z s))) (sym places-length) (sym runs-count)
-        (c .1 .0, c .1 .1 .1)
-
     -- the check of the sections settles what is left of the reader's table
     pub read-on : {f : Fields} {r : Reply (Unit {0})} {a : Reply Heading} → Listed z s → Numbers (word s 6) (word s 12) → f ≡ fieldsOf z s
         → Settled refused (soundRows z f) (λ x. x ≡ accepted tt) r
@@ -97,6 +91,11 @@ module _ (z : Sizes) (sized : 0 < z .run) where
             subst₂ (λ (n m : ℕ). Settled refused (fieldRows z n m (fieldsOf z s)) (λ x. x ≡ accepted tt) r)
             places-length runs-count (after (subst₂ Numbers (sym places-length) (sym runs-count) numbers) sound)
 
+  -- the fields of an image that is read are sound
+  pub fields-sound : (s : List ℕ) → Clears (readRows z s) → Clears (soundRows z (fieldsOf z s))
+  fields-sound s c = let laid = fact (c .1 .1 .0) in
+      subst₂ (λ (n m : ℕ). Clears (whole 2 (Numbers n m) ∷ fieldRows z n m (fieldsOf z s))) (sym (places-length s laid)) (sym (runs-count s laid)) (c .1 .0, c .1 .1 .1)
+
 -- ---- fields without a fault
 module _ (z : Sizes) (sized : 0 < z .run) (f : Fields) (sound : Clears (soundRows z f)) where
   -- the run section is made of whole records
@@ -112,7 +111,7 @@ module _ (z : Sizes) (sized : 0 < z .run) (f : Fields) (sound : Clears (soundRow
   counts = fact (sound .0)
 
 -- ---- any two replies of the check are equal
-told-one : (a b : Checked) → told a ≡ told b → a ≡ b
+pub told-one : (a b : Checked) → told a ≡ told b → a ≡ b
 told-one Sound Sound e = refl
 told-one Sound (Unsound i j) e = absurd (not-refused e)
 told-one (Unsound i j) Sound e = absurd (not-refused (sym e))

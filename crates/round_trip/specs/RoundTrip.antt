@@ -85,5 +85,5 @@ write-read s small n m line p q a b c before after w fits d =
     sound : Clears (writeRows sizes (fieldsOf sizes s) (length before))
     sound =
         clears-join (soundRows sizes (fieldsOf sizes s)) (roomRow sizes (fieldsOf sizes s) (length before))
-        (fields-sound sizes (omega arith) s laid (v .clears))
+        (fields-sound sizes (omega arith) s (v .clears))
         (clear (subst (λ (k : ℕ). k ≤ length before) (laid .total ∙ ap₂ (lengthOf sizes) (sym (places-length sizes (omega arith) s laid)) (sym (runs-count sizes (omega arith) s laid))) fits), tt)

@@ -9,10 +9,10 @@ use lib.Dec.{eqb, ltb}
 use native.Mathlib.Decide.{ℕ-discrete, decLt}
 use native.Mathlib.Omega.{arith}
 use Rattle.wirings.specs.Chosen.{chosen, chosen-used, used-chosen}
-use Rattle.wirings.specs.Counted.{Sound, Runs, comps, feds, comps-mono, feds-mono, all-fed}
-use Rattle.wirings.specs.Joined.{joined-mono}
+use Rattle.wirings.specs.Counted.{Sound, Runs, comps, stocked, feds, comps-mono, feds-mono, all-fed, fed-stocked, stocked-fed}
+use Rattle.wirings.specs.Joined.{joined-mono, fed-mono}
 use Rattle.wirings.specs.Labels.{In, label, root-smallest, smallest-root}
-use Rattle.wirings.specs.Pieces.{pieces}
+use Rattle.wirings.specs.Pieces.{pieces, stock, fedPieces}
 use Rattle.wirings.specs.Tally.{when, When, same, apart, whens, tally}
 use Rattle.wirings.specs.Wiring.{Order, Wiring, Used, Joined, Smallest, Counts, none, one, skip, Segments, Loop, Fed, Lawful}
 
@@ -74,6 +74,44 @@ counts-pieces o L (suc n) = go (whens (label o L n) n 1) (counts-pieces o L n)
     go : {z k : ℕ} → When (label o L n) n 1 z → Counts (Smallest o (In L)) n k → Counts (Smallest o (In L)) (suc n) (z + k)
     go {z} {k} (same e f) c = subst (Counts (Smallest o (In L)) (suc n)) (omega arith) (one c (root-smallest o L e))
     go {z} {k} (apart e f) c = subst (Counts (Smallest o (In L)) (suc n)) (omega arith) (skip c (λ s. e (smallest-root o L n s)))
+
+abbrev held : Order → List ℕ → ℕ → ℕ
+held o L x = min 1 (stock (o .n) (o .supply) (label o L) x)
+
+pub counts-fed : (o : Order) → ((x : ℕ) → o .supply x ≤ 1) → (L : List ℕ) → Counts (λ x. Smallest o (In L) x × Fed o (In L) x) (o .n) (feds o L)
+unfolding fedPieces tally
+counts-fed o bit L = upto (o .n)
+  where
+    one-more : (k : ℕ) {c z : ℕ} → When (label o L k) k (held o L k) z → Counts (λ x. Smallest o (In L) x × Fed o (In L) x) k c → Counts (λ x. Smallest o (In L) x × Fed o (In L) x) (suc k) (z + c)
+    one-more k {c} {z} (same e f) t =
+        let own : stocked o L k ≡ stock (o .n) (o .supply) (label o L) k = ap (stock (o .n) (o .supply) (label o L)) e in
+        elim (decLt 0 (stocked o L k)) [
+          | yes l ↦ subst (Counts _ (suc k)) (omega (arith, f, own)) (one t (root-smallest o L e, stocked-fed o bit L k l))
+          | no n ↦ subst (Counts _ (suc k)) (omega (arith, f, own)) (skip t (λ h. n (fed-stocked o bit L (h .1))))
+        ]
+    one-more k {c} {z} (apart e f) t = subst (Counts _ (suc k)) (omega (arith, f)) (skip t (λ h. e (smallest-root o L k (h .0))))
+
+    upto : (k : ℕ) → Counts (λ x. Smallest o (In L) x × Fed o (In L) x) k (tally (λ x. when (label o L x) x (held o L x)) k)
+    upto zero = none
+    upto (suc k) = one-more k (whens (label o L k) k (held o L k)) (upto k)
+
+-- ---- MIN and MAX in words: the places that are the smallest of their component over unstruck runs; and those of their component over fixed runs, where
+-- that holds a supply
+abbrev pub Unstruck : Order → ℕ → Type 0
+Unstruck o r = (r < o .m) × (0 < o .state r)
+
+abbrev pub Fixed : Order → ℕ → Type 0
+Fixed o r = (r < o .m) × (o .state r ≡ 2)
+
+module _ (o : Order) where
+  pub least-counts : Counts (Smallest o (Unstruck o)) (o .n) (least o)
+  least-counts = counts-same (λ x s y l p. s y l (joined-mono (λ r h. unstruck-in o r (h .0) (h .1)) p)) (λ x s y l p. s y l (joined-mono (in-unstruck o) p)) (counts-pieces o (unstruckRuns o) (o .n))
+
+  pub most-counts : ((x : ℕ) → o .supply x ≤ 1) → Counts (λ x. Smallest o (Fixed o) x × Fed o (Fixed o) x) (o .n) (most o)
+  most-counts bit = counts-same
+      (λ x h. (λ y l p. h .0 y l (joined-mono (λ r q. fixed-in o r (q .0) (q .1)) p), fed-mono (in-fixed o) (h .1)))
+      (λ x h. (λ y l p. h .0 y l (joined-mono (in-fixed o) p), fed-mono (λ r q. fixed-in o r (q .0) (q .1)) (h .1)))
+      (counts-fed o bit (fixedRuns o))
 
 -- ---- a wiring and the list of the runs that it uses
 abbrev pub usedRuns : Order → Wiring → List ℕ

@@ -3,7 +3,7 @@
 use Prim.Native.Nat.{ℕ, zero, suc, min, max, _+_, _-_, _≤_, _<_}
 use mathlib.Core.Bool.{Bool, true, false}
 use mathlib.Core.List.{List, [], _∷_}
-use mathlib.Core.Logic.{_⊎_, inl, inr, ⊎-elim}
+use mathlib.Core.Logic.{_↔_, _⊎_, inl, inr, ⊎-elim}
 use mathlib.Core.Path.{_≡_, refl, sym, ap, subst, _∙_}
 use borrow.Author.Tests.{eqb-true}
 use lib.Dec.{eqb}
@@ -16,7 +16,7 @@ use Rattle.wirings.specs.Counted.{Sound, Runs, comps, feds, comps-ext, c
 use Rattle.wirings.specs.Forest.{Forest, forest-no-loop}
 use Rattle.wirings.specs.Joined.{joined-mono, joined-into, joined-sym, joined-trans, fed-mono}
 use Rattle.wirings.specs.Labels.{In, label, label-mono, label-least, joined-label, same-joined}
-use Rattle.wirings.specs.Limits.{fixedRuns, unstruckRuns, least, most, fixed-in, in-fixed, unstruck-in, in-unstruck, usedRuns, in-used, used-in, segments, lawful-less, lawful-fed, lawful-least, lawful-most, lawful-count}
+use Rattle.wirings.specs.Limits.{Fixed, Unstruck, fixedRuns, unstruckRuns, least, most, fixed-in, in-fixed, unstruck-in, in-unstruck, usedRuns, in-used, used-in, segments, lawful-less, lawful-fed, lawful-least, lawful-most, lawful-count}
 use Rattle.wirings.specs.Loops.{closing-loops}
 use Rattle.wirings.specs.Pieces.{pieces, pieces-same}
 use Rattle.wirings.specs.Scan.{Scan, Goes, goes, Passed, Kept, kept}
@@ -29,7 +29,7 @@ Opens o r = o .state r ≡ 2 → Joined o (λ j. (j < r) × (o .state j ≡ 2)) 
 
 -- unstruck runs join x with a supply
 abbrev pub Reached : Order → ℕ → Type 0
-Reached o x = Fed o (λ r. (r < o .m) × (0 < o .state r)) x
+Reached o x = Fed o (Unstruck o) x
 
 pub record Meets (o : Order) : Type 0 where
   pub open′ : (r : ℕ) → r < o .m → Opens o r
@@ -125,6 +125,14 @@ fixed-forest : (o : Order) (k : ℕ) → ((r : ℕ) → r < k → Opens o r) →
 unfolding chosen
 fixed-forest o zero f = tt
 fixed-forest o (suc k) f = forest-step o k (eqb (o .state k) 2) refl (f k (omega arith)) (fixed-forest o k (λ r l. f r (omega arith)))
+
+-- they have no loop exactly if each opens
+pub no-loop-opens : (o : Order) → Sound o → (Loop o (Fixed o) → ⊥) ↔ ((r : ℕ) → r < o .m → Opens o r)
+no-loop-opens o ok = (
+  λ none r l e p. none (closing-loops o (Fixed o) (λ j q. ok .up j (q .0)) (λ i j p q. ok .fresh i j (p .0) (q .0)) r (l, e)
+      (joined-mono (λ j q. ((omega (arith, q .0), q .1), λ z. omega (arith, q .0))) p)),
+  λ opens c. forest-no-loop o ok (fixedRuns o) (λ r h. in-fixed o r h .0) (fixed-forest o (o .m) opens) (loop-mono (λ r q. fixed-in o r (q .0) (q .1)) c),
+)
 
 -- ---- the end of a scan over all possible runs, in whatever order
 module _ (o : Order) (ok : Sound o) (meets : Meets o) where
@@ -237,8 +245,7 @@ exists o ok line meets = let (w, h, _) = of-count o ok meets (max (o .low) (leas
 
 pub meets-of : (o : Order) → Sound o → (w : Wiring) → Lawful o w → Meets o
 meets-of o ok w h = record {
-  open′ = λ r l e p. h .no-loop (closing-loops o (Used o w) (λ j q. ok .up j (q .0)) (λ i j p q. ok .fresh i j (p .0) (q .0)) r (l, h .fixed r l e)
-      (joined-mono (λ j q. ((omega (arith, q .0), h .fixed j (omega (arith, q .0)) (q .1)), λ z. omega (arith, q .0))) p));
+  open′ = no-loop-opens o ok .0 (λ c. h .no-loop (loop-mono (λ r q. (q .0, h .fixed r (q .0) (q .1))) c));
   fed = λ x l. fed-mono (λ r q. in-unstruck o r q) (fed-mono (lawful-less o ok w h) (lawful-fed o ok w h x l));
   few = omega (arith, lawful-least o ok w h, h .few);
   enough = omega (arith, lawful-most o ok w h, h .enough);
