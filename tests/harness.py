@@ -3,6 +3,7 @@ import concurrent.futures
 import functools
 import os
 import re
+import struct
 import subprocess
 import sys
 import tempfile
@@ -49,6 +50,11 @@ def alone(program, data):
         return run(program, data).decode("latin-1")
     except RuntimeError as error:
         return str(error)
+
+
+def amendment_input(amendment, form):
+    """What the amender reads."""
+    return struct.pack("<3H", *amendment) + form
 
 
 def same(name, got, wanted, data=b""):

@@ -3,17 +3,19 @@ import struct
 
 import harness   # for the way to independent/
 
+import forms
 import quick
-from enumerator import NARROW, PIN, STRIKE
+from enumerator import NARROW, PIN, POSSIBLE, STRIKE
 from forms import Form, Refused, image_of
 
 
 def small_fields(rng):
-    """Up to 7 places and 11 runs: often lawful, often at an end of its count range."""
-    n = rng.choice([1, 2, 3, 4, 4, 5, 5, 6, 6, 7])
+    """Up to 8 places and 12 runs: often lawful, often at an end of its count range."""
+    n = rng.choice([1, 2, 3, 4, 4, 5, 5, 6, 6, 7, 8])
     pairs = [(u, v) for u in range(n) for v in range(u + 1, n)]
     weights = rng.choice([(1, 6, 1), (2, 6, 2), (1, 2, 2), (1, 8, 0), (0, 3, 4)])
-    runs = [(u, v, rng.choices((0, 1, 2), weights)[0]) for u, v in rng.sample(pairs, rng.randint(0, min(len(pairs), 11)))]
+    most = min(len(pairs), 12)
+    runs = [(u, v, rng.choices((0, 1, 2), weights)[0]) for u, v in rng.sample(pairs, rng.choice([most, rng.randint(0, most)]))]
     density = rng.choice([0.3, 0.6, 0.9])
     supplies = [int(rng.random() < density) for _ in range(n)]
     low = rng.choice([0, 1, 1, 1, 2, 2, 3, 4])
@@ -24,7 +26,7 @@ def large_fields(rng):
     """Up to 256 places and 1,024 runs: places in trees, with more runs between them, and line four at or near an end of what can be had."""
     n = rng.choice([rng.randint(8, 256), 256])
     label = rng.sample(range(n), n)   # so that the trees do not follow the numbers of the places
-    reach, kept, fixed = rng.choice([3, 30, n]), rng.choice([0.9, 0.99, 1]), rng.random()
+    reach, kept, fixed, loops = rng.choice([3, 30, n]), rng.choice([0.9, 0.99, 1]), rng.random(), rng.choice([0, 0, 0, 0.1])
     runs = {}
     for k in range(1, n):
         if rng.random() < kept:
@@ -32,7 +34,7 @@ def large_fields(rng):
     for _ in range(rng.choice([0, n // 8, n, 1024])):
         ends = pair(*rng.sample(range(n), 2))
         if len(runs) < 1024:
-            runs.setdefault(ends, rng.choices((0, 1, 2), (1, 4, 0.002))[0])   # a fixed one may close a loop
+            runs.setdefault(ends, rng.choices((0, 1, 2), (1, 4, loops))[0])
     runs = [(*ends, state) for ends, state in runs.items()]
     rng.shuffle(runs)
     density = rng.choice([0.1, 0.5, 0.9])
@@ -61,16 +63,15 @@ def bad_run(rng, supplies, runs, low, high):
     n, runs = len(supplies), list(runs) or [(0, 0, 1)]
     at = rng.randrange(len(runs))
     u, v, state = runs[at]
-    runs[at] = rng.choice([(v, u, state), (u, u, state), (u, n, state), (u, v + 256 * n, state), (n + 1, n + 2, state), (u, v, 3), (u, v, 255)])
+    runs[at] = rng.choice([(v, u, state), (u, u, state), (u, n, state), (u, v + 256, state), (n + 1, n + 2, state), (u, v, 3), (u, v, 255)])
     return supplies, runs, low, high
 
 
 def repeated_run(rng, supplies, runs, low, high):
-    runs = list(runs) or [(0, 0, 1)]
-    at = rng.randrange(len(runs))
-    u, v, _ = runs[at]
-    runs.insert(rng.randint(at + 1, len(runs)), (u, v, rng.randint(0, 2)))
-    return supplies, runs[:1024], low, high
+    runs = list(runs) if len(runs) > 1 else [(0, 1, 1), (0, 1, 1)]
+    earlier, later = sorted(rng.sample(range(len(runs)), 2))
+    runs[later] = (*runs[earlier][:2], rng.randint(0, 2))
+    return supplies, runs, low, high
 
 
 def bad_line(rng, supplies, runs, low, high):
@@ -141,13 +142,21 @@ def damaged_form(rng):
     return rng.choice(DAMAGES)(rng, small_form(rng))
 
 
-def amendments(rng, m):
-    """A list for a form of m runs."""
-    run_number = lambda: rng.randrange(m + 1 if rng.random() < 0.05 else max(m, 1))
+def keyed_list(rng):
+    """A form and two to five amendments. Most forms have lawful wirings, and most amendments are of runs that these leave open."""
+    image = damaged_form(rng) if rng.random() < 0.1 else small_form(rng)
+    try:
+        states = [state for _, _, state in quick.confirm(forms.read(image)).form.runs]
+    except Refused:
+        if rng.random() < 0.9:
+            return keyed_list(rng)
+        states = []
+    possible = [r for r, state in enumerate(states) if state == POSSIBLE]
+    run_number = lambda: rng.choice(possible) if possible and rng.random() < 0.9 else rng.randint(0, len(states))
     kinds = [
         lambda: (PIN, run_number(), 0),
         lambda: (STRIKE, run_number(), 0),
-        lambda: (NARROW, rng.randint(0, 2), rng.randint(1, 6)),
+        lambda: (NARROW, rng.randint(0, 2), rng.randint(2, 6)),
         lambda: (rng.choice([0, 1, 2, 3, 4, 65535]), rng.randint(0, 3), rng.randint(0, 2)),
     ]
-    return [rng.choices(kinds, (8, 8, 4, 1))[0]() for _ in range(rng.randint(2, 5))]
+    return image, [rng.choices(kinds, (8, 8, 4, 1))[0]() for _ in range(rng.randint(2, 5))]
