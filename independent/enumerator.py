@@ -158,7 +158,9 @@ def amended(form, amendment):
     return Form(form.supplies, runs, low, high)
 
 
-def amend(image, amendment):
+# What follows takes another confirm too, for forms of which every wiring cannot be tried.
+
+def amend(image, amendment, confirm=confirm):
     """The confirmation after one amendment, or Refused: 1 to 7 and 9 to 11 speak of the form as sent, 12 to 14 of the amendment."""
     filtered = confirm(forms.read(image)).form
     check_amendment(amendment, len(filtered.runs))
@@ -169,11 +171,11 @@ def amend(image, amendment):
         raise Refused(14) from None   # only the amended form has no lawful wiring
 
 
-def steps(image, amendments):
+def steps(image, amendments, confirm=confirm):
     """Each step when the amendments are keyed in this order, up to a refusal: its form, its amendment, and its Confirmation or Refused."""
     for amendment in amendments:
         try:
-            end = amend(image, amendment)
+            end = amend(image, amendment, confirm)
         except Refused as refusal:
             yield image, amendment, refusal
             return
@@ -192,7 +194,7 @@ def key(image, amendments):
     return (end, len(earlier)) if isinstance(end, Refused) else end
 
 
-def together(image, amendments):
+def together(image, amendments, confirm=confirm):
     """The confirmation of the filtered form with all the amendments written in at once, or Refused."""
     form = confirm(forms.read(image)).form
     for amendment in amendments:

@@ -60,17 +60,24 @@ def large_forms(rng, count):
     images = [inputs.large_form(rng) for _ in range(count)]
     for image, got in zip(images, listings("lister", images)):
         wanted = enumerator.listing(image, quick.confirm)
-        yield "lister", image, got, wanted, outcomes(image, wanted)
+        yield "lister", image, got, wanted, outcomes(image, wanted) + (LARGEST if len(image) == enumerator.LONGEST else [])
 
 
-def amendments(rng, count):
+def lists(rng, count):
+    return keyed(rng, [inputs.keyed_list(rng) for _ in range(count)], enumerator.confirm)
+
+
+def large_lists(rng, count):
+    return keyed(rng, [inputs.keyed_list(rng, inputs.large_form) for _ in range(count)], quick.confirm)
+
+
+def keyed(rng, pairs, confirm):
     """Each list is keyed in its own order, backwards, and shuffled."""
     cases = []
-    for _ in range(count):
-        image, own = inputs.keyed_list(rng)
+    for image, own in pairs:
         orders = [own, own[::-1], rng.sample(own, len(own))]
-        cases.append((image, own, [list(enumerator.steps(image, order)) for order in orders]))
-    # A step is handed the enumerator's form: the very one that the step before it listed, if that was right.
+        cases.append((image, own, [list(enumerator.steps(image, order, confirm)) for order in orders]))
+    # A step is handed the independent form: the very one that the step before it listed, if that was right.
     got = iter(listings("amender", [amendment_input(step[1], step[0]) for *_, orders in cases for steps in orders for step in steps]))
     for image, own, orders in cases:
         ends = []
@@ -80,7 +87,7 @@ def amendments(rng, count):
                 yield f"amender {amendment}", form, listing, end.listing(), outcomes(form, end.listing())
             ends.append(agreed(listing))
         try:
-            wanted = agreed(enumerator.together(image, own).listing())
+            wanted = agreed(enumerator.together(image, own, confirm).listing())
         except Refused as refusal:
             wanted = agreed(refusal.listing())
         yield f"every order of {own}", image, ends, [wanted] * len(ends), ["list refused" if wanted == "refused" else "list accepted"]
@@ -106,19 +113,21 @@ def lent_buffers(rng, count):
 
 
 READING = [f"refused {k}" for k in range(1, 8)] + [f"refused {k}, place above 0" for k in (4, 5, 6)]
-UNLAWFUL = ["refused 9", "refused 9, place above 0", "refused 10", "refused 10, place above 0", "refused 11"]
-ACCEPTED = ["accepted", "runs struck", "runs pinned", "runs possible", "low as given", "low raised", "high as given", "high lowered", "one count", "several counts"]
-AMENDED = ["refused 12", "refused 13", "refused 14", "list accepted", "list refused"]
 LENT = ["refused 8", "written", "written, no room left"]
+UNLAWFUL = ["refused 9", "refused 9, place above 0", "refused 10", "refused 10, place above 0", "refused 11"]
+AMENDED = ["refused 12", "refused 13", "refused 14", "list accepted", "list refused"]
+ACCEPTED = ["accepted", "runs struck", "runs pinned", "runs possible", "low as given", "low raised", "high as given", "high lowered", "one count", "several counts"]
+LARGEST = ["256 places, 1,024 runs"]
 
-# How many inputs of each kind there are, how many of them go together, and which outcomes must come up. Together they have every number from 1 to 14.
+# How many inputs of each kind there are, how many of them go together, and which outcomes must come up: in all, every number from 1 to 14.
 Kind = collections.namedtuple("Kind", "work count batch outcomes")
 KINDS = {
     "small forms": Kind(small_forms, 20000, 500, UNLAWFUL + ACCEPTED),
     "damaged bytes": Kind(damaged_bytes, 5000, 500, READING),
-    "amendments": Kind(amendments, 2000, 50, AMENDED + ACCEPTED),
+    "lists": Kind(lists, 2000, 100, AMENDED + ACCEPTED),
     "lent buffers": Kind(lent_buffers, 400, 50, LENT),
-    "large forms": Kind(large_forms, 200, 10, UNLAWFUL + ACCEPTED),
+    "large forms": Kind(large_forms, 400, 20, UNLAWFUL + ACCEPTED + LARGEST),
+    "large lists": Kind(large_lists, 100, 5, AMENDED + ACCEPTED),
 }
 
 
@@ -164,9 +173,9 @@ def main():
         harness.start(program)   # built here, before several processes want it
     seen = compare(seed, scale)
 
-    print(" " * 26, *(f"{kind:>14}" for kind in KINDS))
-    for name in READING + LENT + UNLAWFUL + AMENDED + ACCEPTED:
-        print(f"{name:26}", *(f"{counts[name]:14}" for counts in seen.values()))
+    print(" " * 26, *(f"{kind:>13}" for kind in KINDS))
+    for name in READING + LENT + UNLAWFUL + AMENDED + ACCEPTED + LARGEST:
+        print(f"{name:26}", *(f"{counts[name]:13}" for counts in seen.values()))
     for kind, counts in seen.items():
         for name in KINDS[kind].outcomes:
             same(f"{kind}: '{name}' came up", counts[name] > 0, True)

@@ -10,11 +10,11 @@ from forms import Form, Refused, image_of
 
 
 def small_fields(rng):
-    """Up to 8 places and 12 runs: often lawful, often at an end of its count range."""
+    """Up to 8 places and 13 runs: often lawful, often at an end of its count range."""
     n = rng.choice([1, 2, 3, 4, 4, 5, 5, 6, 6, 7, 8])
     pairs = [(u, v) for u in range(n) for v in range(u + 1, n)]
     weights = rng.choice([(1, 6, 1), (2, 6, 2), (1, 2, 2), (1, 8, 0), (0, 3, 4)])
-    most = min(len(pairs), 12)
+    most = min(len(pairs), 13)
     runs = [(u, v, rng.choices((0, 1, 2), weights)[0]) for u, v in rng.sample(pairs, rng.choice([most, rng.randint(0, most)]))]
     density = rng.choice([0.3, 0.6, 0.9])
     supplies = [int(rng.random() < density) for _ in range(n)]
@@ -142,21 +142,21 @@ def damaged_form(rng):
     return rng.choice(DAMAGES)(rng, small_form(rng))
 
 
-def keyed_list(rng):
-    """A form and two to five amendments. Most forms have lawful wirings, and most amendments are of runs that these leave open."""
-    image = damaged_form(rng) if rng.random() < 0.1 else small_form(rng)
+def keyed_list(rng, random_form=small_form):
+    """A form and two to five amendments. Most forms have lawful wirings, and most amendments are of what these leave open."""
+    image = damaged_form(rng) if rng.random() < 0.1 else random_form(rng)
     try:
-        states = [state for _, _, state in quick.confirm(forms.read(image)).form.runs]
+        form = quick.confirm(forms.read(image)).form
     except Refused:
         if rng.random() < 0.9:
-            return keyed_list(rng)
-        states = []
-    possible = [r for r, state in enumerate(states) if state == POSSIBLE]
-    run_number = lambda: rng.choice(possible) if possible and rng.random() < 0.9 else rng.randint(0, len(states))
+            return keyed_list(rng, random_form)
+        form = Form([1], [], 1, 1)
+    possible = [r for r, (_, _, state) in enumerate(form.runs) if state == POSSIBLE]
+    run_number = lambda: rng.choice(possible) if possible and rng.random() < 0.9 else rng.randint(0, len(form.runs))
     kinds = [
         lambda: (PIN, run_number(), 0),
         lambda: (STRIKE, run_number(), 0),
-        lambda: (NARROW, rng.randint(0, 2), rng.randint(2, 6)),
+        lambda: (NARROW, rng.randint(0, form.low + 1), form.high + rng.randint(-1, 2)),
         lambda: (rng.choice([0, 1, 2, 3, 4, 65535]), rng.randint(0, 3), rng.randint(0, 2)),
     ]
     return image, [rng.choices(kinds, (8, 8, 4, 1))[0]() for _ in range(rng.randint(2, 5))]
