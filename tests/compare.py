@@ -126,8 +126,8 @@ KINDS = {
     "damaged bytes": Kind(damaged_bytes, 5000, 500, READING),
     "lists": Kind(lists, 2000, 100, AMENDED + ACCEPTED),
     "lent buffers": Kind(lent_buffers, 400, 50, LENT),
-    "large forms": Kind(large_forms, 400, 20, UNLAWFUL + ACCEPTED + LARGEST),
-    "large lists": Kind(large_lists, 100, 5, AMENDED + ACCEPTED),
+    "large forms": Kind(large_forms, 200, 10, UNLAWFUL + ACCEPTED + LARGEST),
+    "large lists": Kind(large_lists, 50, 5, AMENDED + ACCEPTED),
 }
 
 
