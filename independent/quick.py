@@ -71,16 +71,15 @@ def confirm(form):
             raise Refused(9, r)
         if state == FIXED:
             fixed.join(u, v)
-        if state != STRUCK and not unstruck.joined(u, v):
+        if state != STRUCK:
             unstruck.join(u, v)
     for place in range(len(form.supplies)):
         if not unstruck.supplied[unstruck.find(place)]:
             raise Refused(10, place)
-    least, most = len(unstruck.standing()), sum(fixed.supplied[place] for place in fixed.standing())
+    least, most = len(unstruck.standing()), sum(fixed.supplied[place] for place in fixed.standing())   # MIN and MAX
     if form.high < least or form.low > most:
         raise Refused(11)
     low, high = max(form.low, least), min(form.high, most)
-
     runs, bridges = list(form.runs), bridges_of(form)
     for r, (u, v, state) in enumerate(form.runs):
         if state == POSSIBLE and (fixed.joined(u, v) or low > most - fixed.both_supplied(u, v)):
@@ -95,6 +94,6 @@ def confirm(form):
             most -= fixed.both_supplied(u, v)
             fixed.join(u, v)
         used.append(int(takes or state == FIXED))
-    changed = [after for (_, _, before), (_, _, after) in zip(form.runs, runs) if before != after]
     segments = [fixed.find(place) for place in range(len(form.supplies))]
-    return Confirmation(Form(form.supplies, runs, low, high), used, segments, changed.count(STRUCK), changed.count(FIXED))
+    marks = [after for (_, _, before), (_, _, after) in zip(form.runs, runs) if before != after]
+    return Confirmation(Form(form.supplies, runs, low, high), used, segments, marks.count(STRUCK), marks.count(FIXED))

@@ -102,7 +102,7 @@ def lent_buffers(rng, count):
     """Number 8: write_form lends a buffer of any length, and the lister's always suffice."""
     for _ in range(count):
         places, runs, low, high = (inputs.broken_fields if rng.random() < 0.2 else inputs.small_fields)(rng)
-        records = b"".join(struct.pack("<HHB", *run) for run in runs)
+        records = b"".join(struct.pack("<HHB", *record) for record in runs)
         length = 24 + len(places) + len(records)
         records = records[: len(records) - rng.choice([0, 0, 0, 0, 0, 0, 1, 4])]   # the last record may be torn
         size = rng.choice([0, length - 1, length - 1, length, length, length + 1, lent.ROOM])
@@ -127,7 +127,7 @@ KINDS = {
     "lists": Kind(lists, 2000, 100, AMENDED + ACCEPTED),
     "lent buffers": Kind(lent_buffers, 400, 50, LENT),
     "large forms": Kind(large_forms, 200, 10, UNLAWFUL + ACCEPTED + LARGEST),
-    "large lists": Kind(large_lists, 50, 5, AMENDED + ACCEPTED),
+    "large lists": Kind(large_lists, 50, 5, ["refused 14", "list accepted", "list refused", "runs struck", "runs pinned", "runs possible"]),
 }
 
 

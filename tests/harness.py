@@ -12,6 +12,7 @@ ROOT = os.path.dirname(os.path.dirname(os.path.abspath(__file__)))
 sys.path.insert(0, os.path.join(ROOT, "independent"))
 
 passed, failed = 0, 0
+SHOWN = 20   # differences; more are counted
 
 
 @functools.cache
@@ -25,7 +26,7 @@ def run(program, data, *words):
     """What the program writes for this input."""
     done = subprocess.run([*start(program), *words], input=data, capture_output=True, timeout=120)
     if done.returncode or done.stderr:
-        raise RuntimeError(f"{program} ended with status {done.returncode}: {done.stderr!r}")
+        raise RuntimeError(f"{program} ended with status {done.returncode}: {done.stderr!r}, input {data.hex()}")
     return done.stdout
 
 
@@ -64,7 +65,8 @@ def same(name, got, wanted, data=b""):
         passed += 1
         return True
     failed += 1
-    print(f"FAILED {name}\n  got    {got!r}\n  wanted {wanted!r}\n  input  {data.hex()}")
+    if failed <= SHOWN:
+        print(f"FAILED {name}\n  got    {got!r}\n  wanted {wanted!r}\n  input  {data.hex()}")
     return False
 
 
