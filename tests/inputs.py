@@ -26,7 +26,7 @@ def large_fields(rng):
     """Up to 256 places and 1,024 runs: places in trees, with more runs between them, and line four at or near an end of what can be had."""
     n = rng.choice([rng.randint(8, 256), 256])
     label = rng.sample(range(n), n)   # so that the trees do not follow the numbers of the places
-    reach, kept, fixed, loops = rng.choice([3, 30, n]), rng.choice([0.9, 0.99, 1]), rng.random(), rng.choice([0, 0, 0, 0.1])
+    reach, kept, fixed, loops = rng.choice([3, 30, n]), rng.choice([0.9, 0.99, 1]), rng.random(), rng.choice([0, 0, 0.4])
     runs = {}
     for k in range(1, n):
         if rng.random() < kept:
