@@ -158,7 +158,9 @@ def amended(form, amendment):
     return Form(form.supplies, runs, low, high)
 
 
-def amend(image, amendment):
+# What follows takes another confirm too, for forms of which every wiring cannot be tried.
+
+def amend(image, amendment, confirm=confirm):
     """The confirmation after one amendment, or Refused: 1 to 7 and 9 to 11 speak of the form as sent, 12 to 14 of the amendment."""
     filtered = confirm(forms.read(image)).form
     check_amendment(amendment, len(filtered.runs))
@@ -169,26 +171,44 @@ def amend(image, amendment):
         raise Refused(14) from None   # only the amended form has no lawful wiring
 
 
+def steps(image, amendments, confirm=confirm):
+    """Each step when the amendments are keyed in this order, up to a refusal: its form, its amendment, and its Confirmation or Refused."""
+    for amendment in amendments:
+        try:
+            end = amend(image, amendment, confirm)
+        except Refused as refusal:
+            yield image, amendment, refusal
+            return
+        yield image, amendment, end
+        image = end.image()
+
+
 def key(image, amendments):
     """The last confirmation when the amendments are keyed in this order, or the refusal and its step, counted from 0."""
-    step = 0
-    try:
-        if not amendments:
+    if not amendments:
+        try:
             return confirm(forms.read(image))
-        for step, amendment in enumerate(amendments):
-            last = amend(image, amendment)
-            image = last.image()
-        return last
-    except Refused as refusal:
-        return refusal, step
+        except Refused as refusal:
+            return refusal, 0
+    *earlier, (_, _, end) = steps(image, amendments)
+    return (end, len(earlier)) if isinstance(end, Refused) else end
 
 
-def listing(image):
+def together(image, amendments, confirm=confirm):
+    """The confirmation of the filtered form with all the amendments written in at once, or Refused."""
+    form = confirm(forms.read(image)).form
+    for amendment in amendments:
+        check_amendment(amendment, len(form.runs))
+        form = amended(form, amendment)
+    return confirm(form)
+
+
+def listing(image, confirm=confirm):
     """What the lister prints."""
     try:
         return confirm(forms.read(image)).listing()
     except Refused as refusal:
-        return f"{refusal}\n"
+        return refusal.listing()
 
 
 def amendments_of(words):

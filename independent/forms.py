@@ -14,6 +14,9 @@ class Refused(Exception):
         super().__init__(f"refused {number} {place}")
         self.number, self.place = number, place
 
+    def listing(self):
+        return f"{self}\n"
+
 
 class Form:
     def __init__(self, supplies, runs, low, high):

@@ -1,14 +1,15 @@
 #!/usr/bin/env python3
-"""Reading and writing: each number at its place and in its order, the limits, the round trip, and random forms and damaged bytes
-beside the independent reader and writer. forms.py [SEED [COUNT]]"""
+"""Reading and writing: each number at its place and in its order, the limits, and random forms and damaged bytes beside the independent reader.
+forms.py [SEED [COUNT]]"""
 import random
-import struct
 import sys
 
 import harness
 from harness import each, run, same
 
 import forms
+import inputs
+import lent
 from forms import image_of
 
 E = image_of([1, 0, 0, 0, 1], [(0, 1, 2), (1, 2, 1), (0, 2, 1), (2, 3, 1), (3, 4, 1)], 1, 9)
@@ -96,7 +97,7 @@ def listing(image):
     try:
         form = forms.read(image)
     except forms.Refused as refusal:
-        return f"{refusal}\n"
+        return refusal.listing()
     lines = [f"form {len(form.supplies)} {len(form.runs)} {form.low} {form.high}"]
     lines += [f"place {k} {supply}" for k, supply in enumerate(form.supplies)]
     lines += [f"run {r} {u} {v} {state}" for r, (u, v, state) in enumerate(form.runs)]
@@ -110,35 +111,20 @@ def read_case(case):
 
 
 def write_case(case):
-    name, places, records, low, high, size, *_ = case
-    data = struct.pack("<4H", len(places), low, high, size) + places + records
+    name, *fields, _ = case
+    data = lent.data(*fields)
     reply, _, buffer = run("write_form", data).partition(b"\n")
     return name, data, reply.decode(), buffer
 
 
-def written(places, records, low, high, size):
-    """What write_form should say and leave, by the independent writer."""
-    reply, buffer = forms.write(list(places), records, low, high, bytes([170]) * size)
-    return " ".join(map(str, reply)), buffer + bytes([170]) * (6000 - size)
-
-
 def random_image(rng):
     """A small form, whole or damaged somewhere."""
-    n = rng.randint(1, 5)
-    pairs = [(u, v) for u in range(n) for v in range(u + 1, n)]
-    rng.shuffle(pairs)
-    runs = [(u, v, rng.randint(0, 2)) for u, v in pairs[: rng.randint(0, len(pairs))]]
-    low = rng.randint(0, 4)
-    image = image_of([rng.randint(0, 1) for _ in range(n)], runs, low, low + rng.randint(0, 3))
-    for _ in range(rng.choice([0, 1, 1, 1, 2])):
-        at = rng.randrange(len(image))
-        image = poke(image, at, rng.choice([0, 1, 2, 3, image[at] ^ 1, image[at] + 1 & 255, rng.randrange(256)]))
-    return image[: rng.randrange(len(image))] if rng.random() < 0.05 else image
+    return (inputs.small_form if rng.random() < 0.5 else inputs.damaged_form)(rng)
 
 
 def main():
     seed = int(sys.argv[1]) if len(sys.argv) > 1 else 20261115
-    count = int(sys.argv[2]) if len(sys.argv) > 2 else 1500
+    count = int(sys.argv[2]) if len(sys.argv) > 2 else 600
     rng = random.Random(seed)
 
     for name, image, got, wanted in each(read_case, READ):
@@ -146,9 +132,9 @@ def main():
         same(f"the independent reader: {name}", listing(image).split("\n")[0], wanted, image)
 
     for case, (name, data, reply, buffer) in zip(WRITE, each(write_case, WRITE)):
-        places, records, low, high, size, wanted = case[1:]
+        _, *fields, wanted = case
         same(f"write: {name}", reply, wanted, data)
-        same(f"the buffer: {name}", buffer, written(places, records, low, high, size)[1], data)
+        same(f"the buffer: {name}", buffer, lent.reply(*fields)[1], data)
 
     images = [random_image(rng) for _ in range(count)]
     seen = {}
@@ -158,16 +144,6 @@ def main():
         same(f"random image, seed {seed}", got, wanted, image)
     print("seed", seed, "random images:", ", ".join(f"{k}: {v}" for k, v in sorted(seen.items())))
     same("every number from 1 to 7 came up, and forms", sorted(seen), ["form"] + [f"refused {k}" for k in range(1, 8)])
-
-    fields = []
-    for image in images[: count // 3]:
-        if len(image) >= 20:
-            n = min(image[6], len(image) - 20)
-            low, high = rng.randint(0, 3), rng.randint(0, 3)
-            end = len(image) - rng.choice([0, 4, 4, 4])
-            fields.append(("", image[20: 20 + n], image[20 + n: max(end, 20 + n)], low, high, rng.choice([0, 30, 60, 100, len(image)])))
-    for case, (_, data, reply, buffer) in zip(fields, each(write_case, fields)):
-        same(f"random fields, seed {seed}", (reply, buffer), written(*case[1:]), data)
     harness.finish()
 
 

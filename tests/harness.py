@@ -1,21 +1,61 @@
 """Runs the built programs, and counts what passes."""
 import concurrent.futures
+import functools
 import os
+import re
+import struct
 import subprocess
 import sys
+import tempfile
 
 ROOT = os.path.dirname(os.path.dirname(os.path.abspath(__file__)))
 sys.path.insert(0, os.path.join(ROOT, "independent"))
 
 passed, failed = 0, 0
+SHOWN = 20   # differences; more are counted
+
+
+@functools.cache
+def start(program):
+    """The words that start a program, which is built where it has not been."""
+    shown = subprocess.run([os.path.join(ROOT, "run"), "--show", program], stdout=subprocess.PIPE, check=True)
+    return shown.stdout.decode().splitlines()
 
 
 def run(program, data, *words):
     """What the program writes for this input."""
-    done = subprocess.run([os.path.join(ROOT, "run"), program, *words], input=data, capture_output=True, timeout=120)
-    if done.returncode:
-        raise RuntimeError(f"{program} ended with status {done.returncode}: {done.stderr!r}")
+    done = subprocess.run([*start(program), *words], input=data, capture_output=True, timeout=120)
+    if done.returncode or done.stderr:
+        raise RuntimeError(f"{program} ended with status {done.returncode}: {done.stderr!r}, input {data.hex()}")
     return done.stdout
+
+
+def listings(program, inputs):
+    """What the program lists for each input. One process is handed them all as files, since most of a small one's time is its start."""
+    with tempfile.TemporaryDirectory() as folder:
+        names = [os.path.join(folder, str(at)) for at in range(len(inputs))]
+        for name, data in zip(names, inputs):
+            with open(name, "wb") as file:
+                file.write(data)
+        try:
+            before, *listed = re.split(r"^(?=ok|refused)", run(program, b"", *names).decode(), flags=re.MULTILINE)
+            if not before and len(listed) == len(inputs):
+                return listed
+        except (RuntimeError, UnicodeDecodeError):
+            pass
+    return [alone(program, data) for data in inputs]   # to see which input it is that goes wrong
+
+
+def alone(program, data):
+    try:
+        return run(program, data).decode("latin-1")
+    except RuntimeError as error:
+        return str(error)
+
+
+def amendment_input(amendment, form):
+    """What the amender reads."""
+    return struct.pack("<3H", *amendment) + form
 
 
 def same(name, got, wanted, data=b""):
@@ -25,7 +65,8 @@ def same(name, got, wanted, data=b""):
         passed += 1
         return True
     failed += 1
-    print(f"FAILED {name}\n  got    {got!r}\n  wanted {wanted!r}\n  input  {data.hex()}")
+    if failed <= SHOWN:
+        print(f"FAILED {name}\n  got    {got!r}\n  wanted {wanted!r}\n  input  {data.hex()}")
     return False
 
 

@@ -1,11 +1,11 @@
 #!/usr/bin/env python3
-"""The forms that the paper works by hand, and form E's listing, against the independent enumerator."""
+"""The forms that the paper works by hand, and form E's listing, against the independent enumerator and the built programs."""
 import os
 import subprocess
 import sys
 
 import harness
-from harness import same
+from harness import amendment_input, run, same
 
 import enumerator
 import forms
@@ -128,8 +128,11 @@ def command(image, *words):
 def main():
     for name, image, wanted in FORMS:
         same(f"listed: {name}", enumerator.listing(image), wanted, image)
+        same(f"lister: {name}", run("lister", image).decode(), wanted, image)
     for name, image, amendments, wanted in KEYED:
         same(f"keyed: {name}", keyed(image, amendments), wanted, image)
+        for form, amendment, end in enumerator.steps(image, amendments):
+            same(f"amender: {name}, {amendment}", run("amender", amendment_input(amendment, form)).decode(), end.listing(), form)
 
     for words, counts in (("strike 3 pin 1", "ok 1 0 2 2\n"), ("pin 1 strike 3", "ok 0 1 2 2\n")):
         same(f"P12's end: {words}", command(E, "key", *words.split()), counts + P12_LISTING, E)
