@@ -14,7 +14,7 @@ use Rattle.wirings.specs.Amendments.{Amendment, pin, strike, narrow, WellFormed
 use Rattle.wirings.specs.OfForm.{orderOf}
 use Rattle.wirings.specs.Wiring.{Order, Wiring, Lawful}
 
--- what three numbers say: 1 r 0 pins run r, 2 r 0 strikes it, 3 a b narrows the count to a..b
+-- § 8.1: what three numbers say, 1 r 0 pins run r, 2 r 0 strikes it, 3 a b narrows the count to a..b
 pub data Says (x y z : ℕ) : Amendment → Type 0 where
   pins : x ≡ 1 → z ≡ 0 → Says x y z (pin y)
   strikes : x ≡ 2 → z ≡ 0 → Says x y z (strike y)
@@ -26,28 +26,28 @@ Run m (pin r) = r < m
 Run m (strike r) = r < m
 Run m (narrow a b) = Unit {0}
 
--- 12: the numbers say an amendment, of a run that there is
+-- § 2.2, 12: the numbers say an amendment, of a run that there is
 abbrev pub Named : ℕ → ℕ → ℕ → ℕ → Type 0
 Named m x y z = (a : Amendment) × Says x y z a × Run m a
 
--- 13: a narrowing has a count in it
+-- § 2.2, 13: a narrowing has a count in it
 abbrev pub Ordered : ℕ → ℕ → ℕ → Type 0
 Ordered x y z = x ≡ 3 → y ≤ z
 
--- 14: some lawful wiring of the form obeys the amendment
+-- § 2.2, 14: some lawful wiring of the form obeys the amendment
 abbrev pub Obeyed : Order → ℕ → ℕ → ℕ → Type 0
 Obeyed o x y z = (a : Amendment) × Says x y z a × (w : Wiring) × Lawful o w × Obeys o w a
 
 abbrev pub amendRows : Fields → ℕ → ℕ → ℕ → List Row
 amendRows f x y z = whole 12 (Named (runsIn sizes (f .runs)) x y z) ∷ whole 13 (Ordered x y z) ∷ whole 14 (Obeyed (orderOf f) x y z) ∷ []
 
--- a form with an amendment written in: the state of a run, or the larger low and the smaller high
+-- § 8.3: a form with an amendment written in, the state of a run, or the larger low and the smaller high
 abbrev pub written : Amendment → Fields → Fields
 written (pin r) f = record { places = f .places; runs = set (f .runs) (5 * r + 4) 2; low = f .low; high = f .high }
 written (strike r) f = record { places = f .places; runs = set (f .runs) (5 * r + 4) 0; low = f .low; high = f .high }
 written (narrow a b) f = record { places = f .places; runs = f .runs; low = max (f .low) a; high = min (f .high) b }
 
--- accepted: what the filter gives for the confirmed form with the amendment written in
+-- § 8.3, § 8.4, accepted: what the filter gives for the confirmed form with the amendment written in
 pub record Amended (f : Fields) (x y z : ℕ) (lent : Lent) (left : Left) : Type 0 where
   pub amendment : Amendment
   pub says : Says x y z amendment
@@ -61,7 +61,7 @@ pub record Amended (f : Fields) (x y z : ℕ) (lent : Lent) (left : Left) : Type
   pub confirmed : Confirmed (orderOf f) state low high wiring segment struck pinned
   pub last : Accepted (written amendment (confirmedFields f state low high)) lent left
 
--- numbers 1 to 14 in their order, with the buffers as they were; else the amended form, confirmed
+-- § 2.1, § 8.3: numbers 1 to 14 in their order, with the buffers as they were; else the amended form, confirmed
 abbrev pub Leaves : List ℕ → ℕ → ℕ → ℕ → Lent → Left → Type 0
 Leaves s x y z lent =
     Settled (λ number k. record { reply = refused number k; lent = lent }) (filterRows s lent ++ amendRows (fieldsOf sizes s) x y z) (Amended (fieldsOf sizes s) x y z lent)

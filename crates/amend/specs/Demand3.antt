@@ -1,7 +1,7 @@
 -- Demand 3, over the bytes that `amend` writes: the order in which amendments are keyed does not matter.
 use Prim.Native.Nat.{ℕ, _*_}
 use mathlib.Core.List.{List, [], _∷_}
-use mathlib.Core.Logic.{_⊎_, inl, inr, ⊎-elim}
+use mathlib.Core.Logic.{_↔_, _⊎_, inl, inr, ⊎-elim}
 use mathlib.Core.Path.{_≡_, refl, sym, ap, subst, _∙_}
 use lib.ListN.{length, take}
 use native.Mathlib.Omega.{arith}
@@ -170,8 +170,18 @@ module _ (g : Fields) {w : Wiring} {segment : ℕ → ℕ} (t : Settled-form g w
         keyed : ((p : Left) × Accepts (image sizes g) (first ∷ others) lent p) ⊎ MeetsRefusal (image sizes g) (first ∷ others)
         keyed = keying amend meets g t refl first others lent room
 
-  -- and so two orders that are accepted end alike
-  pub same-end : {lent : Lent} {p q : Left} → Accepts (image sizes g) L lent p → Accepts (image sizes g) (first ∷ others) lent q → p .lent ≡ q .lent
-  same-end a b =
+-- ---- lists that the same wirings obey end alike
+module _ (g : Fields) {w : Wiring} {segment : ℕ → ℕ} (t : Settled-form g w segment) where
+  pub obeyed-alike : {L K : List Amendment} → ((b : Wiring) → ObeysAll (orderOf g) b L ↔ ObeysAll (orderOf g) b K) → {lent : Lent} {p q : Left}
+      → Accepts (image sizes g) L lent p → Accepts (image sizes g) K lent q → p .lent ≡ q .lent
+  obeyed-alike same a b =
       let (y, k, s) = ends-at g t refl a in let (z, l, r) = ends-at g t refl b in
-      shows-one g (equal-as (alike-sym (keyed-alike k)) (keyed-same start k l pm .equal)) s r
+      shows-one g (equal-as (alike-sym (keyed-alike k)) (keyed-same (record { sound = order-sound g (t .sound); confirmed = t .confirmed }) k l same .equal)) s r
+
+  -- so two orders of a list do
+  pub same-end : {L K : List Amendment} → Permuted L K → {lent : Lent} {p q : Left} → Accepts (image sizes g) L lent p → Accepts (image sizes g) K lent q → p .lent ≡ q .lent
+  same-end pm a b = obeyed-alike (λ v. obeys-permuted (orderOf g) v pm) a b
+
+  -- and keying an amendment again changes nothing
+  pub repeated : (a : Amendment) {lent : Lent} {p q : Left} → Accepts (image sizes g) (a ∷ []) lent p → Accepts (image sizes g) (a ∷ a ∷ []) lent q → p .lent ≡ q .lent
+  repeated a x y = obeyed-alike (λ v. (λ h. (h .0, (h .0, tt)), λ h. (h .0, tt))) x y

@@ -14,7 +14,7 @@ use Rattle.wirings.specs.Confirmed.{Confirmed}
 use Rattle.wirings.specs.OfForm.{orderOf}
 use Rattle.wirings.specs.Wiring.{Wiring}
 
--- a confirmed form: filtering it changes nothing and counts nothing
+-- § 4.1: a confirmed form, filtering it changes nothing and counts nothing
 pub record Settled-form (g : Fields) (w : Wiring) (segment : ℕ → ℕ) : Type 0 where
   pub sound : Clears (soundRows sizes g)
   pub confirmed : Confirmed (orderOf g) (orderOf g .state) (g .low) (g .high) w segment 0 0
@@ -25,7 +25,7 @@ Call s (pin r) lent left = Leaves s 1 r 0 lent left
 Call s (strike r) lent left = Leaves s 2 r 0 lent left
 Call s (narrow a b) lent left = Leaves s 3 a b lent left
 
--- keyed in this order, each to the form that the call before it left, all are accepted; `left` is what the last call left of its buffers
+-- § 8.5: keyed in this order, each to the form that the call before it left, all are accepted; `left` is what the last call left of its buffers
 pub data Accepts : List ℕ → List Amendment → Lent → Left → Type 0 where
   last : {s : List ℕ} (a : Amendment) (lent : Lent) (left : Left) {k : Counts} → Call s a lent left → left .reply ≡ accepted k → Accepts s (a ∷ []) lent left
   before : {s : List ℕ} (a : Amendment) {L : List Amendment} {lent : Lent} (lent′ : Lent) {left : Left} (left′ : Left) {k : Counts} → Call s a lent′ left′ → left′ .reply ≡ accepted k
@@ -37,7 +37,7 @@ pub data MeetsRefusal : List ℕ → List Amendment → Type 0 where
   later : {s : List ℕ} (a : Amendment) {L : List Amendment} (lent : Lent) (left : Left) {k : Counts} → Call s a lent left → left .reply ≡ accepted k
       → MeetsRefusal (take (length s) (left .lent .form)) L → MeetsRefusal s (a ∷ L)
 
--- all of them written in together
+-- § 8.5: all of them written in together
 abbrev pub writtenAll : List Amendment → Fields → Fields
 writtenAll [] g = g
 writtenAll (a ∷ L) g = writtenAll L (written a g)

@@ -1,4 +1,4 @@
--- The paper's table of refusals, as a list of rows in the order of their numbers.
+-- § 2.1: the paper's table of refusals, as a list of rows in the order of their numbers.
 use Prim.Native.Nat.{ℕ, _≤_, _<_}
 use mathlib.Core.Bool.{Bool, true, false}
 use mathlib.Core.List.{List, [], _∷_}

@@ -31,7 +31,7 @@ pub record Room (f : Fields) (lent : Lent) : Type 0 where
   pub wiring : runsIn sizes (f .runs) ≤ length (lent .wiring)
   pub segments : length (f .places) ≤ length (lent .segments)
 
--- what comes after the reading: 8 to 11
+-- § 2.2: what comes after the reading, 8 to 11
 abbrev pub laterRows : Fields → Lent → List Row
 laterRows f lent = whole 8 (Room f lent) ∷ orderRows (orderOf f)
 
@@ -44,7 +44,7 @@ unfoldable pub restated : (ℕ → ℕ) → ℕ → List ℕ → List ℕ
 restated state zero runs = runs
 restated state (suc k) runs = set (restated state k runs) (5 * k + 4) (state k)
 
--- the fields of the confirmed form: places and ends are copied
+-- § 4.1: the fields of the confirmed form, places and ends are copied
 abbrev pub confirmedFields : Fields → (ℕ → ℕ) → ℕ → ℕ → Fields
 confirmedFields f state low high = record { places = f .places; runs = restated state (runsIn sizes (f .runs)) (f .runs); low = low; high = high }
 
@@ -52,13 +52,13 @@ abbrev pub bit : Bool → ℕ
 bit true = 1
 bit false = 0
 
--- the first k elements of a buffer are written, and the rest is kept
+-- § 4.6: the first k elements of a buffer are written, and the rest is kept
 pub record Written (f : ℕ → ℕ) (k : ℕ) (before after : List ℕ) : Type 0 where
   pub size : length after ≡ length before
   pub says : (j : ℕ) → j < k → getD after j 0 ≡ f j
   pub rest : (j : ℕ) → k ≤ j → getD after j 0 ≡ getD before j 0
 
--- the form is confirmed: by its lawful wirings alone
+-- § 4: the form is confirmed, by its lawful wirings alone
 pub record Accepted (f : Fields) (lent : Lent) (left : Left) : Type 0 where
   pub state : ℕ → ℕ
   pub low : ℕ
@@ -73,7 +73,7 @@ pub record Accepted (f : Fields) (lent : Lent) (left : Left) : Type 0 where
   pub wired : Written (λ r. bit (wiring r)) (runsIn sizes (f .runs)) (lent .wiring) (left .lent .wiring)
   pub numbered : Written segment (length (f .places)) (lent .segments) (left .lent .segments)
 
--- numbers 1 to 11 in their order, with the buffers as they were; else the confirmation
+-- § 2.1, § 4: numbers 1 to 11 in their order, with the buffers as they were; else the confirmation
 abbrev pub Leaves : List ℕ → Lent → Left → Type 0
 Leaves s lent = Settled (λ number k. record { reply = refused number k; lent = lent }) (filterRows s lent) (Accepted (fieldsOf sizes s) lent)
 

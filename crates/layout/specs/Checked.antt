@@ -13,6 +13,6 @@ abbrev pub told : Checked → Reply (Unit {0})
 told Sound = accepted tt
 told (Unsound number place) = refused number place
 
--- numbers 2 and 4 to 7, in their order
+-- § 2.2: numbers 2 and 4 to 7, in their order
 abbrev pub Checks : Fields → Checked → Type 0
 Checks f r = Settled refused (soundRows sizes f) (λ s. s ≡ accepted tt) (told r)

@@ -1,4 +1,4 @@
--- The form on file: where each part stands, and what a run's record holds.
+-- § 1.2: the form on file, where each part stands, and what a run's record holds.
 use Prim.Native.Nat.{ℕ, _+_, _-_, _*_, _/_, _%_}
 use mathlib.Core.List.{List, [], _∷_, _++_}
 use mathlib.Core.Path.{_≡_}
@@ -55,7 +55,7 @@ pub record Shows (z : Sizes) (runs : List ℕ) (r u v state : ℕ) : Type 0 wher
   pub other : v ≡ endV z runs r
   pub mark : state ≡ stateOf z runs r
 
--- what a form says: a byte for each place, the records of its runs, and line four
+-- § 1.1: what a form says, a byte for each place, the records of its runs, and line four
 pub record Fields : Type 0 where
   pub places : List ℕ
   pub runs : List ℕ

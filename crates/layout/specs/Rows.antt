@@ -1,4 +1,4 @@
--- Numbers 1 to 8 of the paper's table: what each asks, in the order of the numbers.
+-- § 2.2: numbers 1 to 8 of the paper's table, what each asks, in the order of the numbers.
 use Prim.Native.Nat.{ℕ, _+_, _*_, _≤_, _<_}
 use mathlib.Core.List.{List, [], _∷_, _++_}
 use mathlib.Core.Path.{_≡_}
@@ -84,7 +84,7 @@ abbrev pub headingOf : Sizes → List ℕ → Heading
 headingOf z s =
     record { places = word s 6; runs = word s 12; low = fieldsOf z s .low; high = fieldsOf z s .high }
 
--- the reader: 1 to 7
+-- § 2.3: the reader, 1 to 7
 abbrev pub readRows : Sizes → List ℕ → List Row
 readRows z s =
     let n = word s 6 in let m = word s 12 in
@@ -94,6 +94,6 @@ readRows z s =
 abbrev pub roomRow : Sizes → Fields → ℕ → List Row
 roomRow z f buffer = whole 8 (lengthFor z f ≤ buffer) ∷ []
 
--- the writer: 2 and 4 to 8
+-- § 2.4: the writer, 2 and 4 to 8
 abbrev pub writeRows : Sizes → Fields → ℕ → List Row
 writeRows z f buffer = soundRows z f ++ roomRow z f buffer

@@ -14,14 +14,14 @@ abbrev pub told : Reading → Reply Heading
 told (Form n m line) = accepted (record { places = n; runs = m; low = line .low; high = line .high })
 told (Refused number place) = refused number place
 
--- numbers 1 to 7 in their order; else what the form says
+-- § 2.3: numbers 1 to 7 in their order; else what the form says
 abbrev pub Reply-to : List ℕ → Reply Heading → Type 0
 Reply-to s = Settled refused (readRows sizes s) (λ a. a ≡ accepted (headingOf sizes s))
 
 abbrev pub Reads : List ℕ → Reading → Type 0
 Reads s r = Reply-to s (told r)
 
--- a section: nothing where the image is refused, else the part of it that holds the field
+-- § 2.3: a section is empty where the image is refused, else the part of it that holds the field
 abbrev pub Section : (Fields → List ℕ) → List ℕ → List ℕ → Type 0
 Section field s part = Settled (λ _ _. []) (readRows sizes s) (λ p. p ≡ field (fieldsOf sizes s)) part
 

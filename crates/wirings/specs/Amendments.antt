@@ -13,12 +13,13 @@ use Rattle.wirings.specs.Same.{agree-self, confirmed}
 use Rattle.wirings.specs.Standing.{alike-trans}
 use Rattle.wirings.specs.Wiring.{Order, Wiring, Segments, Lawful}
 
--- an amendment pins a run, strikes a run, or narrows the number of segments to a..b
+-- § 8.1: an amendment pins a run, strikes a run, or narrows the number of segments to a..b
 pub data Amendment : Type 0 where
   pin : ℕ → Amendment
   strike : ℕ → Amendment
   narrow : ℕ → ℕ → Amendment
 
+-- § 8.1: not refused with 12 or 13
 abbrev pub WellFormed : Order → Amendment → Type 0
 WellFormed o (pin r) = r < o .m
 WellFormed o (strike r) = r < o .m
@@ -28,7 +29,7 @@ abbrev pub AllWellFormed : Order → List Amendment → Type 0
 AllWellFormed o [] = Unit {0}
 AllWellFormed o (a ∷ L) = WellFormed o a × AllWellFormed o L
 
--- a wiring obeys an amendment, said of the wiring alone
+-- § 8.2: a wiring obeys an amendment, said of the wiring alone
 abbrev pub Obeys : Order → Wiring → Amendment → Type 0
 Obeys o w (pin r) = w r ≡ true
 Obeys o w (strike r) = w r ≡ true → ⊥
@@ -38,18 +39,18 @@ abbrev pub ObeysAll : Order → Wiring → List Amendment → Type 0
 ObeysAll o w [] = Unit {0}
 ObeysAll o w (a ∷ L) = Obeys o w a × ObeysAll o w L
 
--- the form with an amendment written in: the run fixed, or struck; of line four the larger low and the smaller high
+-- § 8.3: the form with an amendment written in, the run fixed, or struck; of line four the larger low and the smaller high
 abbrev pub amended : Amendment → Order → Order
 amended (pin r) o = marked r 2 o
 amended (strike r) o = marked r 0 o
 amended (narrow a b) o = confirmed o (o .state) (max (o .low) a) (min (o .high) b)
 
--- all of them written in
+-- § 8.5: all of them written in
 abbrev pub writtenIn : List Amendment → Order → Order
 writtenIn [] o = o
 writtenIn (a ∷ L) o = writtenIn L (amended a o)
 
--- the amendment pins a struck run, or strikes a fixed one
+-- § 8.3: the amendment pins a struck run, or strikes a fixed one
 abbrev pub Clash : Order → Amendment → Type 0
 Clash o (pin r) = o .state r ≡ 0
 Clash o (strike r) = o .state r ≡ 2
@@ -142,7 +143,7 @@ written-wirings (a ∷ L) o good b h all w =
       λ p. i .1 (c .1 (p .0, p .1 .0), obeys-all-as e w L (p .1 .1)),
     )
 
--- ---- the list in another order
+-- ---- § 8.5: the list in another order
 pub data Permuted : List Amendment → List Amendment → Type 0 where
   empty : Permuted [] []
   ahead : {a : Amendment} {L K : List Amendment} → Permuted L K → Permuted (a ∷ L) (a ∷ K)

@@ -1,8 +1,8 @@
--- Amendments keyed one by one, filtering after each: which wirings are left, and that the order of keying does not matter.
+-- Amendments keyed one by one, filtering after each: which wirings are left, and that lists which the same wirings obey end alike.
 use mathlib.Core.List.{List, [], _∷_}
 use mathlib.Core.Logic.{_↔_}
 use Rattle.wirings.specs.Alike.{Alike, alike-sym}
-use Rattle.wirings.specs.Amendments.{Amendment, WellFormed, Obeys, ObeysAll, amended, Clash, Permuted, amended-alike, amended-sound, amendment-cuts, obeys-all-as, obeys-permuted}
+use Rattle.wirings.specs.Amendments.{Amendment, WellFormed, Obeys, ObeysAll, amended, Clash, amended-alike, amended-sound, amendment-cuts, obeys-all-as}
 use Rattle.wirings.specs.Same.{Agree, agree-self, Equal, same-confirmation}
 use Rattle.wirings.specs.Standing.{Outcome, Gives, Stands, alike-trans, gives-stands, gives-agree}
 use Rattle.wirings.specs.Wiring.{Wiring, Lawful}
@@ -52,7 +52,7 @@ keyed-wirings s (then {L = L} k r) w =
 pub stops : {x y : Outcome} {L : List Amendment} → Stands x → Keyed x L y → (w : Wiring) × Lawful (x .form) w × ObeysAll (x .form) w L
 stops {y = y} s k = let p = keyed-wirings s k (y .wiring) .0 (keyed-stands s k .confirmed .first .lawful) in (y .wiring, p .0, p .1)
 
--- ---- the order of keying does not matter: the same form, wiring and segment numbers
+-- ---- lists that the same wirings obey give the same form, wiring and segment numbers
 pub record SameOutcome (x y : Outcome) : Type 0 where
   pub agree : Agree (x .form) (y .form)
   pub equal : Equal (x .form) (x .form .state) (y .form .state) (x .form .low) (y .form .low) (x .form .high) (y .form .high)
@@ -61,9 +61,9 @@ pub record SameOutcome (x y : Outcome) : Type 0 where
 same-outcome : {x y : Outcome} → Stands x → Stands y → Agree (x .form) (y .form) → SameOutcome x y
 same-outcome {x} {y} s t a = record { agree = a; equal = same-confirmation (x .form) (y .form) (s .sound) (t .sound) a (s .confirmed) (t .confirmed) }
 
-pub keyed-same : {x y z : Outcome} {L K : List Amendment} → Stands x → Keyed x L y → Keyed x K z → Permuted L K → SameOutcome y z
+pub keyed-same : {x y z : Outcome} {L K : List Amendment} → Stands x → Keyed x L y → Keyed x K z → ((w : Wiring) → ObeysAll (x .form) w L ↔ ObeysAll (x .form) w K) → SameOutcome y z
 keyed-same {x} s k j p = same-outcome (keyed-stands s k) (keyed-stands s j) (record {
   alike = alike-trans (alike-sym (keyed-alike k)) (keyed-alike j);
-  to = λ w h. let q = keyed-wirings s k w .0 h in keyed-wirings s j w .1 (q .0, obeys-permuted (x .form) w p .0 (q .1));
-  from = λ w h. let q = keyed-wirings s j w .0 h in keyed-wirings s k w .1 (q .0, obeys-permuted (x .form) w p .1 (q .1));
+  to = λ w h. let q = keyed-wirings s k w .0 h in keyed-wirings s j w .1 (q .0, p w .0 (q .1));
+  from = λ w h. let q = keyed-wirings s j w .0 h in keyed-wirings s k w .1 (q .0, p w .1 (q .1));
 })

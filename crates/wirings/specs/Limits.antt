@@ -23,7 +23,7 @@ fixedRuns o = chosen (λ r. eqb (o .state r) 2) (o .m)
 abbrev pub unstruckRuns : Order → List ℕ
 unstruckRuns o = chosen (λ r. ltb 0 (o .state r)) (o .m)
 
--- MIN: the components over unstruck runs. MAX: the components over fixed runs that hold a supply
+-- § 5.1, MIN: the components over unstruck runs. MAX: the components over fixed runs that hold a supply
 abbrev pub least : Order → ℕ
 least o = comps o (unstruckRuns o)
 
@@ -95,7 +95,7 @@ counts-fed o bit L = upto (o .n)
     upto zero = none
     upto (suc k) = one-more k (whens (label o L k) k (held o L k)) (upto k)
 
--- ---- MIN and MAX in words: the places that are the smallest of their component over unstruck runs; and those of their component over fixed runs, where
+-- ---- § 5.1: MIN and MAX in words, the places that are the smallest of their component over unstruck runs; and those of their component over fixed runs, where
 -- that holds a supply
 abbrev pub Unstruck : Order → ℕ → Type 0
 Unstruck o r = (r < o .m) × (0 < o .state r)

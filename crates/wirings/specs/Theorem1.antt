@@ -22,7 +22,7 @@ use Rattle.wirings.specs.Pieces.{pieces, pieces-same}
 use Rattle.wirings.specs.Scan.{Scan, Goes, goes, Passed, Kept, kept}
 use Rattle.wirings.specs.Wiring.{Order, Wiring, Used, Leads, along, back, Joined, here, on, Segments, Loop, Fed, Lawful}
 
--- ---- the three conditions, in words
+-- ---- § 5.1: the three conditions, in words
 -- earlier fixed runs do not join the ends of run r, if it is fixed
 abbrev pub Opens : Order → ℕ → Type 0
 Opens o r = o .state r ≡ 2 → Joined o (λ j. (j < r) × (o .state j ≡ 2)) (o .u r) (o .v r) → ⊥
@@ -251,7 +251,7 @@ meets-of o ok w h = record {
   enough = omega (arith, lawful-most o ok w h, h .enough);
 }
 
--- ---- the conditions as rows of the paper's table
+-- ---- § 2.2: the conditions as rows of the paper's table
 -- 11: low..high meets MIN..MAX
 pub record Met (o : Order) : Type 0 where
   pub few : least o ≤ o .high

@@ -5,7 +5,7 @@ use mathlib.Core.List.{List}
 use mathlib.Core.Path.{_≡_}
 use lib.ListN.{length, getD}
 
--- what a form says, by number: n places and which hold a supply (1); m runs, their ends and states (0 struck, 1 possible, 2 fixed); line four
+-- § 1.1, § 1.3: what a form says, by number: n places and which hold a supply (1); m runs, their ends and states (0 struck, 1 possible, 2 fixed); line four
 pub record Order : Type 0 where
   pub n : ℕ
   pub m : ℕ
@@ -16,7 +16,7 @@ pub record Order : Type 0 where
   pub low : ℕ
   pub high : ℕ
 
--- a wiring names the runs that it uses
+-- § 3.1: a wiring names the runs that it uses
 abbrev pub Wiring : Type 0
 Wiring = ℕ → Bool
 
@@ -28,12 +28,12 @@ pub data Leads (o : Order) (r x y : ℕ) : Type 0 where
   along : o .u r ≡ x → o .v r ≡ y → Leads o r x y
   back : o .v r ≡ x → o .u r ≡ y → Leads o r x y
 
--- x and y are joined by runs of a set
+-- § 3.2: x and y are joined by runs of a set
 pub data Joined (o : Order) (Q : ℕ → Type 0) (x : ℕ) : ℕ → Type 0 where
   here : Joined o Q x x
   on : {y z : ℕ} → Joined o Q x y → (r : ℕ) → Q r → Leads o r y z → Joined o Q x z
 
--- x is the smallest place of its segment, the places that are joined with it
+-- § 3.2: x is the smallest place of its segment, the places that are joined with it
 abbrev pub Smallest : Order → (ℕ → Type 0) → ℕ → Type 0
 Smallest o Q x = (y : ℕ) → y < x → Joined o Q x y → ⊥
 
@@ -43,11 +43,11 @@ pub data Counts (P : ℕ → Type 0) : ℕ → ℕ → Type 0 where
   one : {n k : ℕ} → Counts P n k → P n → Counts P (suc n) (suc k)
   skip : {n k : ℕ} → Counts P n k → (P n → ⊥) → Counts P (suc n) k
 
--- the number of segments: each has one smallest place
+-- § 3.2: the number of segments; each has one smallest place
 abbrev pub Segments : Order → Wiring → ℕ → Type 0
 Segments o w k = Counts (Smallest o (Used o w)) (o .n) k
 
--- a closed way through three or more different places along different runs of a set: run i leads from place i to the next, the last back to the first
+-- § 3.3: a closed way through three or more different places along different runs of a set: run i leads from place i to the next, the last back to the first
 pub record Loop (o : Order) (Q : ℕ → Type 0) : Type 0 where
   pub places : List ℕ
   pub runs : List ℕ
@@ -59,14 +59,14 @@ pub record Loop (o : Order) (Q : ℕ → Type 0) : Type 0 where
   pub places-differ : (i j : ℕ) → i < j → j < length places → getD places i 0 ≡ getD places j 0 → ⊥
   pub runs-differ : (i j : ℕ) → i < j → j < length runs → getD runs i 0 ≡ getD runs j 0 → ⊥
 
--- x is joined with a supply
+-- § 3.4: x is joined with a supply
 pub record Fed (o : Order) (Q : ℕ → Type 0) (x : ℕ) : Type 0 where
   pub at : ℕ
   pub place : at < o .n
   pub supplied : o .supply at ≡ 1
   pub joined : Joined o Q x at
 
--- every fixed run is used and no struck one, there is no loop, each segment holds a supply, and the number of segments lies from low to high
+-- § 3.4: every fixed run is used and no struck one, there is no loop, each segment holds a supply, and the number of segments lies from low to high
 pub record Lawful (o : Order) (w : Wiring) : Type 0 where
   pub fixed : (r : ℕ) → r < o .m → o .state r ≡ 2 → w r ≡ true
   pub struck : (r : ℕ) → r < o .m → o .state r ≡ 0 → w r ≡ true → ⊥

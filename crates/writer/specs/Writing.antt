@@ -20,7 +20,7 @@ pub record Left : Type 0 where
   pub reply : Reply ℕ
   pub form : List ℕ
 
--- numbers 2 and 4 to 8 in their order, with the buffer as it was; else the image at its start, and the rest kept
+-- § 2.4: numbers 2 and 4 to 8 in their order, with the buffer as it was; else the image at its start, and the rest kept
 abbrev pub Leaves : Fields → List ℕ → Left → Type 0
 Leaves f before =
     Settled
