@@ -74,6 +74,11 @@ pub fn refused(number: u16, place: u16) {
         .print();
 }
 
+// The step, counted from 0, at which an amendment was refused.
+pub fn step(number: usize) {
+    begin(b"step").number(number).print();
+}
+
 // A confirmed form in its buffers: the counts and line four, the runs, and the places.
 pub fn accepted(
     struck: u16,

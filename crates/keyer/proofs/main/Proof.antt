@@ -1,0 +1,115 @@
+-- `main` stays within the image.
+use lib.ListN.{length-take}
+use native.Mathlib.Omega.{arith}
+use borrow.Author.Needs.{needs}
+use Rattle.keyer.proofs.main.Statement.{statement}
+use Rattle.keyer.proofs.main.Tie as tie
+
+arg-count-requires : tie.Need-arg-count-requires
+arg-count-requires c κs = search needs
+
+asked-requires : tie.Need-asked-requires
+asked-requires c κs = search needs
+
+enum-known-request : tie.Need-enum-known-request
+enum-known-request c = search needs
+
+enum-told : tie.Need-enum-told
+enum-told c = search needs
+
+slice-aggregate-write-all : tie.Need-slice-aggregate-write-all
+slice-aggregate-write-all c = search needs
+
+write-all-requires : tie.Need-write-all-requires
+write-all-requires c κs = search needs
+
+returns : tie.Need-returns
+returns c = search needs
+
+slice-aggregate-read-full : tie.Need-slice-aggregate-read-full
+slice-aggregate-read-full c = search needs
+
+read-full-requires : tie.Need-read-full-requires
+read-full-requires c κs = search needs
+
+slice-aggregate-keyed : tie.Need-slice-aggregate-keyed
+slice-aggregate-keyed c = search needs
+
+slice-aggregate-keyed-2 : tie.Need-slice-aggregate-keyed-2
+slice-aggregate-keyed-2 c = search needs
+
+slice-aggregate-keyed-3 : tie.Need-slice-aggregate-keyed-3
+slice-aggregate-keyed-3 c = search needs
+
+slice-aggregate-keyed-4 : tie.Need-slice-aggregate-keyed-4
+slice-aggregate-keyed-4 c = search needs
+
+keyed-requires : tie.Need-keyed-requires
+keyed-requires c κs = search needs
+
+enum-known-answer : tie.Need-enum-known-answer
+enum-known-answer c = search needs
+
+refused-requires : tie.Need-refused-requires
+refused-requires c κs = search needs
+
+step-requires : tie.Need-step-requires
+step-requires c κs = search needs
+
+enum-known-answer-2 : tie.Need-enum-known-answer-2
+enum-known-answer-2 c = search needs
+
+array-share-prefix-image : tie.Need-array-share-prefix-image
+array-share-prefix-image c = search needs
+
+slice-aggregate-saved : tie.Need-slice-aggregate-saved
+slice-aggregate-saved c = simp length-take (omega arith)
+
+saved-requires : tie.Need-saved-requires
+saved-requires c κs = search needs
+
+accepted-requires : tie.Need-accepted-requires
+accepted-requires c κs = search needs
+
+returns-2 : tie.Need-returns-2
+returns-2 c = search needs
+
+returns-3 : tie.Need-returns-3
+returns-3 c = search needs
+
+returns-4 : tie.Need-returns-4
+returns-4 c = search needs
+
+returns-5 : tie.Need-returns-5
+returns-5 c = search needs
+
+pub main-spec : {M : Type 1} → statement M
+main-spec =
+    tie.close
+    (tie.spec
+    arg-count-requires
+    asked-requires
+    enum-known-request
+    enum-told
+    slice-aggregate-write-all
+    write-all-requires
+    returns
+    slice-aggregate-read-full
+    read-full-requires
+    slice-aggregate-keyed
+    slice-aggregate-keyed-2
+    slice-aggregate-keyed-3
+    slice-aggregate-keyed-4
+    keyed-requires
+    enum-known-answer
+    refused-requires
+    step-requires
+    enum-known-answer-2
+    array-share-prefix-image
+    slice-aggregate-saved
+    saved-requires
+    accepted-requires
+    returns-2
+    returns-3
+    returns-4
+    returns-5)
