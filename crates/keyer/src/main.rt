@@ -17,13 +17,24 @@ struct End {
 fn main() {
     let count = os::arg_count();
     let request = words::asked(count);
-    let Request::Keying { amended, file } = request else {
-        io::write_all(
-            STDOUT_FILENO,
-            b"usage: keyer [pin R | strike R | narrow A B | -o FILE].. < FORM\n",
-        );
-        return;
-    };
+    match request {
+        Request::Nonsense { word } => usage(word),
+        Request::Keying { amended, file } => key(count, amended, file),
+    }
+}
+
+// Says how words are put, and the word from which on they are not.
+fn usage(word: usize) {
+    io::write_all(
+        STDOUT_FILENO,
+        b"usage: keyer [pin R | strike R | narrow A B | -o FILE].. < FORM; see word ",
+    );
+    io::print_decimal(STDOUT_FILENO, word as u64);
+    io::write_all(STDOUT_FILENO, b"\n");
+}
+
+// Keys the amendments to the form that is read here, and lists the end.
+fn key(count: usize, amended: bool, file: usize) {
     let mut image = [0u8; 5401];
     let mut form = [0u8; 5400];
     let mut wiring = [0u8; 1024];

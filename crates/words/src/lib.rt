@@ -18,10 +18,11 @@ pub enum Meaning {
     Nothing,
 }
 
-// What all words ask for: whether something is amended, and the word that names a file, or 0; or nothing that can be done.
+// What all words ask for: whether something is amended, and the word that names a file, or 0;
+// or the word from which on they say nothing.
 pub enum Request {
     Keying { amended: bool, file: usize },
-    Nonsense,
+    Nonsense { word: usize },
 }
 
 // Opens the file that word i names, and answers a descriptor, or -1 once it has said on standard error why it cannot.
@@ -77,11 +78,11 @@ pub fn asked(count: usize) -> Request {
         let meaning = said(i, count);
         match meaning {
             Meaning::Nothing => {
-                return Request::Nonsense;
+                return Request::Nonsense { word: i };
             }
             Meaning::File => {
                 if file != 0 {
-                    return Request::Nonsense;
+                    return Request::Nonsense { word: i };
                 }
                 file = i + 1;
             }

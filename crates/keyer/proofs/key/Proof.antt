@@ -1,30 +1,9 @@
--- `main` stays within the image.
+-- `key` stays within the image.
 use lib.ListN.{length-take}
 use native.Mathlib.Omega.{arith}
 use borrow.Author.Needs.{needs}
-use Rattle.keyer.proofs.main.Statement.{statement}
-use Rattle.keyer.proofs.main.Tie as tie
-
-arg-count-requires : tie.Need-arg-count-requires
-arg-count-requires c κs = search needs
-
-asked-requires : tie.Need-asked-requires
-asked-requires c κs = search needs
-
-enum-known-request : tie.Need-enum-known-request
-enum-known-request c = search needs
-
-enum-told : tie.Need-enum-told
-enum-told c = search needs
-
-slice-aggregate-write-all : tie.Need-slice-aggregate-write-all
-slice-aggregate-write-all c = search needs
-
-write-all-requires : tie.Need-write-all-requires
-write-all-requires c κs = search needs
-
-returns : tie.Need-returns
-returns c = search needs
+use Rattle.keyer.proofs.key.Statement.{statement}
+use Rattle.keyer.proofs.key.Tie as tie
 
 slice-aggregate-read-full : tie.Need-slice-aggregate-read-full
 slice-aggregate-read-full c = search needs
@@ -71,6 +50,9 @@ saved-requires c κs = search needs
 accepted-requires : tie.Need-accepted-requires
 accepted-requires c κs = search needs
 
+returns : tie.Need-returns
+returns c = search needs
+
 returns-2 : tie.Need-returns-2
 returns-2 c = search needs
 
@@ -80,20 +62,10 @@ returns-3 c = search needs
 returns-4 : tie.Need-returns-4
 returns-4 c = search needs
 
-returns-5 : tie.Need-returns-5
-returns-5 c = search needs
-
-pub main-spec : {M : Type 1} → statement M
-main-spec =
+pub key-spec : {M : Type 1} → statement M
+key-spec =
     tie.close
     (tie.spec
-    arg-count-requires
-    asked-requires
-    enum-known-request
-    enum-told
-    slice-aggregate-write-all
-    write-all-requires
-    returns
     slice-aggregate-read-full
     read-full-requires
     slice-aggregate-keyed
@@ -109,7 +81,7 @@ main-spec =
     slice-aggregate-saved
     saved-requires
     accepted-requires
+    returns
     returns-2
     returns-3
-    returns-4
-    returns-5)
+    returns-4)
