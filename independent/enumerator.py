@@ -183,15 +183,23 @@ def steps(image, amendments, confirm=confirm):
         image = end.image()
 
 
-def key(image, amendments):
-    """The last confirmation when the amendments are keyed in this order, or the refusal and its step, counted from 0."""
+def key(image, amendments, confirm=confirm):
+    """The last confirmation when the amendments are keyed in this order, or the refusal and its step, counted from 0; none where there are none."""
     if not amendments:
         try:
             return confirm(forms.read(image))
         except Refused as refusal:
-            return refusal, 0
-    *earlier, (_, _, end) = steps(image, amendments)
+            return refusal, None
+    *earlier, (_, _, end) = steps(image, amendments, confirm)
     return (end, len(earlier)) if isinstance(end, Refused) else end
+
+
+def end_listing(end):
+    """What is printed of an end of keying: the listing, or the refusal and then its step, if it has one."""
+    if isinstance(end, Confirmation):
+        return end.listing()
+    refusal, step = end
+    return refusal.listing() + ("" if step is None else f"step {step}\n")
 
 
 def together(image, amendments, confirm=confirm):
@@ -231,14 +239,7 @@ def main(words):
     except (KeyError, IndexError, ValueError):
         sys.exit(__doc__)
     image = sys.stdin.buffer.read(LONGEST + 1)   # one byte more than the longest form, enough to see an overlong one
-    if words[0] == "list":
-        sys.stdout.write(listing(image))
-        return
-    end = key(image, amendments)
-    if isinstance(end, Confirmation):
-        sys.stdout.write(end.listing())
-    else:
-        print(f"{end[0]}\nstep {end[1]}")
+    sys.stdout.write(end_listing(key(image, amendments)))
 
 
 if __name__ == "__main__":

@@ -3,13 +3,15 @@
 compare.py [SEED [SCALE]]: SCALE times as many inputs of each kind. It fails where an outcome never came up, as it may at a SCALE below 1."""
 import collections
 import multiprocessing
+import os
 import random
 import re
 import struct
 import sys
+import tempfile
 
 import harness
-from harness import amendment_input, listings, run, same
+from harness import alone, listings, run, same, words_of
 
 import enumerator
 import inputs
@@ -22,7 +24,8 @@ def outcomes(image, listing):
     """What a listing shows of its form."""
     head, *lines = [line.split() for line in listing.splitlines()]
     if head[0] == "refused":
-        return [f"refused {head[1]}"] + ([f"refused {head[1]}, place above 0"] if head[2] != "0" else [])
+        shown = [f"refused {head[1]}"] + ([f"refused {head[1]}, place above 0"] if head[2] != "0" else [])
+        return shown + ["refused, step above 0" for line in lines if line[1] != "0"]
     low, high = int(head[3]), int(head[4])
     given = struct.unpack("<HH", image[-4:])
     return ["accepted"] + [name for name, shown in {
@@ -72,25 +75,34 @@ def large_lists(rng, count):
 
 
 def keyed(rng, pairs, confirm):
-    """Each list is keyed in its own order, backwards, and shuffled."""
-    cases = []
-    for image, own in pairs:
-        orders = [own, own[::-1], rng.sample(own, len(own))]
-        cases.append((image, own, [list(enumerator.steps(image, order, confirm)) for order in orders]))
-    # A step is handed the independent form: the very one that the step before it listed, if that was right.
-    got = iter(listings("amender", [amendment_input(step[1], step[0]) for *_, orders in cases for steps in orders for step in steps]))
-    for image, own, orders in cases:
-        ends = []
-        for steps in orders:
-            for form, amendment, end in steps:
-                listing = next(got)
-                yield f"amender {amendment}", form, listing, end.listing(), outcomes(form, end.listing())
-            ends.append(agreed(listing))
-        try:
-            wanted = agreed(enumerator.together(image, own, confirm).listing())
-        except Refused as refusal:
-            wanted = agreed(refusal.listing())
-        yield f"every order of {own}", image, ends, [wanted] * len(ends), ["list refused" if wanted == "refused" else "list accepted"]
+    """Each list is keyed in its own order, backwards, and shuffled; what the keyer prints, and what it writes, with -o somewhere among the words."""
+    with tempfile.TemporaryDirectory() as folder:
+        file = os.path.join(folder, "end")
+        for image, own in pairs:
+            ends = []
+            for order in own, own[::-1], rng.sample(own, len(own)):
+                at = rng.randint(0, len(order))
+                words = words_of(order[:at]) + ["-o", file] + words_of(order[at:])
+                got = alone("keyer", image, *words), taken(file)
+                end = enumerator.key(image, order, confirm)
+                wanted = enumerator.end_listing(end), None if isinstance(end, tuple) else end.image()
+                yield f"keyer {' '.join(words)}", image, got, wanted, outcomes(image, wanted[0])
+                ends.append(agreed(got[0]))
+            try:
+                wanted = agreed(enumerator.together(image, own, confirm).listing())
+            except Refused as refusal:
+                wanted = agreed(refusal.listing())
+            yield f"every order of {own}", image, ends, [wanted] * len(ends), ["list refused" if wanted == "refused" else "list accepted"]
+
+
+def taken(name):
+    """What the file holds, which is then removed, or None where there is none."""
+    if not os.path.exists(name):
+        return None
+    with open(name, "rb") as file:
+        data = file.read()
+    os.remove(name)
+    return data
 
 
 def agreed(listing):
@@ -115,7 +127,7 @@ def lent_buffers(rng, count):
 READING = [f"refused {k}" for k in range(1, 8)] + [f"refused {k}, place above 0" for k in (4, 5, 6)]
 LENT = ["refused 8", "written", "written, no room left"]
 UNLAWFUL = ["refused 9", "refused 9, place above 0", "refused 10", "refused 10, place above 0", "refused 11"]
-AMENDED = ["refused 12", "refused 13", "refused 14", "list accepted", "list refused"]
+AMENDED = ["refused 12", "refused 13", "refused 14", "refused, step above 0", "list accepted", "list refused"]
 ACCEPTED = ["accepted", "runs struck", "runs pinned", "runs possible", "low as given", "low raised", "high as given", "high lowered", "one count", "several counts"]
 LARGEST = ["256 places, 1,024 runs"]
 
@@ -127,7 +139,7 @@ KINDS = {
     "lists": Kind(lists, 2000, 100, AMENDED + ACCEPTED),
     "lent buffers": Kind(lent_buffers, 400, 50, LENT),
     "large forms": Kind(large_forms, 200, 10, UNLAWFUL + ACCEPTED + LARGEST),
-    "large lists": Kind(large_lists, 50, 5, ["refused 14", "list accepted", "list refused", "runs struck", "runs pinned", "runs possible"]),
+    "large lists": Kind(large_lists, 50, 5, ["refused 14", "refused, step above 0", "list accepted", "list refused", "runs struck", "runs pinned", "runs possible"]),
 }
 
 
@@ -169,7 +181,7 @@ def main():
     seed = int(sys.argv[1]) if len(sys.argv) > 1 else 20261115
     scale = float(sys.argv[2]) if len(sys.argv) > 2 else 1
     print(f"seed {seed}", flush=True)
-    for program in ("lister", "amender", "write_form"):
+    for program in ("lister", "keyer", "write_form"):
         harness.start(program)   # built here, before several processes want it
     seen = compare(seed, scale)
 

@@ -3,7 +3,6 @@ import concurrent.futures
 import functools
 import os
 import re
-import struct
 import subprocess
 import sys
 import tempfile
@@ -46,16 +45,19 @@ def listings(program, inputs):
     return [alone(program, data) for data in inputs]   # to see which input it is that goes wrong
 
 
-def alone(program, data):
+def alone(program, data, *words):
     try:
-        return run(program, data).decode("latin-1")
+        return run(program, data, *words).decode("latin-1")
     except RuntimeError as error:
         return str(error)
 
 
-def amendment_input(amendment, form):
-    """What the amender reads."""
-    return struct.pack("<3H", *amendment) + form
+def words_of(amendments):
+    """The words that say these amendments to the keyer."""
+    words = []
+    for kind, a, b in amendments:
+        words += {1: ["pin", str(a)], 2: ["strike", str(a)], 3: ["narrow", str(a), str(b)]}[kind]
+    return words
 
 
 def same(name, got, wanted, data=b""):

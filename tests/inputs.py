@@ -157,6 +157,6 @@ def keyed_list(rng, random_form=small_form):
         lambda: (PIN, run_number(), 0),
         lambda: (STRIKE, run_number(), 0),
         lambda: (NARROW, rng.randint(0, form.low + 1), form.high + rng.randint(-1, 2)),
-        lambda: (rng.choice([0, 1, 2, 3, 4, 65535]), rng.randint(0, 3), rng.randint(0, 2)),
+        lambda: rng.choice([(PIN, len(form.runs), 0), (STRIKE, 65535, 0), (NARROW, form.low + 1, form.low)]),   # not well formed
     ]
     return image, [rng.choices(kinds, (8, 8, 4, 1))[0]() for _ in range(rng.randint(2, 5))]
