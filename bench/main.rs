@@ -1,37 +1,14 @@
 //! The proved filter, through the library for C, beside the plain one of plain.rs: the same bytes, on the same machine.
 //! Both are compared on every form first, and on random small ones; a difference ends the program before anything is timed.
 mod plain;
+#[path = "../rust/wiring.rs"]
+mod wiring;
 
 use std::hint::black_box;
 use std::time::{Duration, Instant};
+use wiring::{Answer, FORM_MAX as LONGEST, PLACES_MAX as MOST_PLACES, RUNS_MAX as MOST_RUNS};
 
-const LONGEST: usize = 5400;
-const MOST_RUNS: usize = 1024;
-const MOST_PLACES: usize = 256;
 const RANDOM_FORMS: usize = 20_000;
-
-#[repr(C)]
-#[derive(Clone, Copy, Debug, PartialEq)]
-struct Reply {
-    number: u16,
-    place: u16,
-    struck: u16,
-    pinned: u16,
-}
-
-extern "C" {
-    // include/wiring.h
-    fn wiring_filter(
-        image: *const u8,
-        image_len: usize,
-        form: *mut u8,
-        form_len: usize,
-        wiring: *mut u8,
-        wiring_len: usize,
-        segments: *mut u16,
-        segments_len: usize,
-    ) -> Reply;
-}
 
 /// The three lent buffers.
 #[derive(Clone, Debug, PartialEq)]
@@ -51,29 +28,16 @@ impl Lent {
     }
 }
 
-type Filter = fn(&[u8], &mut Lent) -> Reply;
+type Filter = fn(&[u8], &mut Lent) -> Answer;
 
-fn library(image: &[u8], lent: &mut Lent) -> Reply {
-    let Lent { form, wiring, segments } = lent;
-    // SAFETY: each pointer is that of a slice with its length, and the four do not overlap.
-    unsafe {
-        wiring_filter(
-            image.as_ptr(),
-            image.len(),
-            form.as_mut_ptr(),
-            form.len(),
-            wiring.as_mut_ptr(),
-            wiring.len(),
-            segments.as_mut_ptr(),
-            segments.len(),
-        )
-    }
+fn library(image: &[u8], lent: &mut Lent) -> Answer {
+    wiring::confirm(image, &mut lent.form, &mut lent.wiring, &mut lent.segments)
 }
 
-fn plain(image: &[u8], lent: &mut Lent) -> Reply {
+fn plain(image: &[u8], lent: &mut Lent) -> Answer {
     match plain::filter(image, &mut lent.form, &mut lent.wiring, &mut lent.segments) {
-        Ok(counts) => Reply { number: 0, place: 0, struck: counts.struck, pinned: counts.pinned },
-        Err(refusal) => Reply { number: refusal.number, place: refusal.place, struck: 0, pinned: 0 },
+        Ok(counts) => Answer::Accepted { struck: counts.struck, pinned: counts.pinned },
+        Err(refusal) => Answer::Refused { number: refusal.number, place: refusal.place },
     }
 }
 
@@ -184,16 +148,16 @@ fn random_small(dice: &mut Dice) -> Vec<u8> {
     image
 }
 
-/// Ends the program where the two differ; else their reply.
-fn compare(name: &str, image: &[u8], lent: Lent) -> Reply {
+/// Ends the program where the two differ; else their answer.
+fn compare(name: &str, image: &[u8], lent: Lent) -> Answer {
     let (mut ours, mut theirs) = (lent.clone(), lent);
-    let replies = (library(image, &mut ours), plain(image, &mut theirs));
-    if replies.0 != replies.1 || ours != theirs {
+    let answers = (library(image, &mut ours), plain(image, &mut theirs));
+    if answers.0 != answers.1 || ours != theirs {
         eprintln!("bench: the two differ on {name}: {image:02x?}");
-        eprintln!("library: {:?} {ours:02x?}\nplain: {:?} {theirs:02x?}", replies.0, replies.1);
+        eprintln!("library: {:?} {ours:02x?}\nplain: {:?} {theirs:02x?}", answers.0, answers.1);
         std::process::exit(1);
     }
-    replies.0
+    answers.0
 }
 
 /// Nanoseconds of one call: the fastest of many batches, which other work on the machine disturbs least.
@@ -257,7 +221,10 @@ fn main() {
         let image = random_small(&mut dice);
         let (n, m) = (8, 22);
         let lent = if dice.one_in(8) { Lent::of(dice.below(image.len() + 1), dice.below(m), dice.below(n)) } else { Lent::of(image.len() + 3, m, n) };
-        seen[compare("a random form", &image, lent).number as usize] += 1;
+        match compare("a random form", &image, lent) {
+            Answer::Accepted { .. } => seen[0] += 1,
+            Answer::Refused { number, .. } => seen[number as usize] += 1,
+        }
     }
     println!("The two agree, byte for byte, on {} forms here and {RANDOM_FORMS} random small ones", forms.len());
     println!("({} accepted, and {} to {} refused by each of the numbers 1 to 11).\n", seen[0], seen[1..].iter().min().unwrap(), seen[1..].iter().max().unwrap());

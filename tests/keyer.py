@@ -42,10 +42,6 @@ UNSAID = [
 ]
 
 
-def said(words):
-    return words.split()
-
-
 class Room:
     """A folder in which the keyer is run."""
 
@@ -60,7 +56,6 @@ class Room:
         with open(self.path("image"), "wb+") as file:
             file.write(image)
             file.seek(0)
-            os.lseek(file.fileno(), 0, os.SEEK_SET)
             done = subprocess.run([*start("keyer"), *words], cwd=self.folder, stdin=file, capture_output=True, timeout=120)
             read = os.lseek(file.fileno(), 0, os.SEEK_CUR)
         os.remove(self.path("image"))
@@ -82,9 +77,9 @@ class Room:
 
 def words_alone(room):
     for words, wanted in SAID:
-        same(f"keyer {words[:60]}", room.keyed(E, said(words)), (wanted, "", len(E)), E)
+        same(f"keyer {words[:60]}", room.keyed(E, words.split()), (wanted, "", len(E)), E)
     for words, at in UNSAID:
-        same(f"keyer {words[:60]}", room.keyed(E, said(words)), (USAGE.format(at), "", 0), E)
+        same(f"keyer {words[:60]}", room.keyed(E, words.split()), (USAGE.format(at), "", 0), E)
     for words in ([""], ["pin", ""], ["pin 1"], ["pin", "1 "], ["pin", " 1"], ["pin", "1\n"]):
         same(f"keyer {words}", room.keyed(E, words), (USAGE.format(1), "", 0), E)
     same("no file where nothing is asked for", room.files(), {})
@@ -103,10 +98,10 @@ def refusals(room):
         ("at the second step", E, "strike 3 -o end strike 4", "refused 14 0\nstep 1\n"),
     ):
         # one byte more than the longest form is read, and no further
-        same(f"refused: {name}", room.keyed(image, said(words)), (wanted, "", min(len(image), 5401)), image)
+        same(f"refused: {name}", room.keyed(image, words.split()), (wanted, "", min(len(image), 5401)), image)
         same(f"refused: {name}, files", room.files(), {}, image)
     room.put("end", b"kept")
-    room.keyed(E, said("-o end strike 3 strike 4"))
+    room.keyed(E, "-o end strike 3 strike 4".split())
     same("a refusal keeps the file", room.files(), {"end": b"kept"})
 
 
@@ -119,18 +114,18 @@ def written(room):
         ("-o pin strike 3 pin 1", "ok 1 0 2 2\n" + P12_LISTING, P12),
         ("-o -o strike 3 pin 1", "ok 1 0 2 2\n" + P12_LISTING, P12),
     ):
-        same(f"keyer {words}", room.keyed(E, said(words)), (listing, "", len(E)), E)
-        name = said(words)[said(words).index("-o") + 1]
+        same(f"keyer {words}", room.keyed(E, words.split()), (listing, "", len(E)), E)
+        name = words.split()[words.split().index("-o") + 1]
         same(f"keyer {words}: the file", room.files(), {name: image}, E)
     same("what is written is listed alike", run("lister", P12).decode(), "ok 0 0 2 2\n" + P12_LISTING, P12)
 
     room.put("end", bytes(9000))
-    room.keyed(E, said("strike 3 pin 1 -o end"))
+    room.keyed(E, "strike 3 pin 1 -o end".split())
     same("a longer file is overwritten", room.files(), {"end": P12})
 
     largest = image_of(*struck_grid(256, 1024))
     end = largest[:-4] + bytes([0, 1, 0, 1])   # 256..256
-    same("the largest form", room.keyed(largest, said("strike 1023 -o end")), (struck_listing(256, 1024), "", 5400))
+    same("the largest form", room.keyed(largest, "strike 1023 -o end".split()), (struck_listing(256, 1024), "", 5400))
     same("the largest form, its file", room.files(), {"end": end})
 
 

@@ -1,5 +1,6 @@
 #!/usr/bin/env python3
-"""The archive for this machine, called by tests/library.c, which is built as C and as C++ through the one header."""
+"""The archive for this machine: called by tests/library.c, which is built as C and as C++ through the one header, and by tests/library.rs,
+through rust/wiring.rs."""
 import os
 import re
 import subprocess
@@ -9,7 +10,12 @@ import harness
 from harness import ROOT, same
 
 STRICT = ["-pedantic", "-Wall", "-Wextra", "-Werror", "-g", "-fsanitize=address,undefined", "-fno-sanitize-recover=all"]
-LANGUAGES = {"C": [os.environ.get("CC", "gcc"), "-std=c99", "-x", "c"], "C++": [os.environ.get("CXX", "g++"), "-std=c++11", "-x", "c++"]}
+FROM_C = ["tests/library.c", "-x", "none", "target/native/libwiring.a"]
+LANGUAGES = {
+    "C": [os.environ.get("CC", "gcc"), "-std=c99", "-x", "c", *STRICT, *FROM_C],
+    "C++": [os.environ.get("CXX", "g++"), "-std=c++11", "-x", "c++", *STRICT, *FROM_C],
+    "Rust": [os.environ.get("RUSTC", "rustc"), "--edition", "2021", "-D", "warnings", "-L", "native=target/native", "tests/library.rs"],
+}
 
 
 def called(*words):
@@ -25,7 +31,7 @@ def main():
     with tempfile.TemporaryDirectory() as room:
         program = os.path.join(room, "library")
         for language, compiler in LANGUAGES.items():
-            built, _ = called(*compiler, *STRICT, "tests/library.c", "-x", "none", "target/native/libwiring.a", "-o", program)
+            built, _ = called(*compiler, "-o", program)
             if same(f"built as {language}", built, True):
                 well, said = called(program)
                 counts = re.search(r"(\d+) passed, (\d+) failed\n$", said)

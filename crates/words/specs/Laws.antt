@@ -13,10 +13,6 @@ pub value-suc : (s : List ℕ) (k : ℕ) → valueOf s (suc k) ≡ 10 * valueOf 
 unfolding valueOf
 value-suc s k = refl
 
-pub value-none : (s : List ℕ) → valueOf s 0 ≡ 0
-unfolding valueOf
-value-none s = refl
-
 value-more : (s : List ℕ) (k d : ℕ) → valueOf s k ≤ valueOf s (d + k)
 value-more s k zero = omega (arith, ap (valueOf s) none)
   where

@@ -1,2 +1,3 @@
 pub mod Numeral
+pub mod Length
 pub mod Laws

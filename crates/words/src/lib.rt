@@ -1,9 +1,10 @@
 // What a program's words say: files to open or to write, numbers, and amendments.
 use check::same;
 ghost use mathlib.Core.Path.{_≡_};
-ghost use Prim.Native.Nat.{_≤_, _<_};
+ghost use Prim.Native.Nat.{_+_, _≤_, _<_, min};
 ghost use Rattle.io.specs.Counts.{Counts};
 ghost use Rattle.words.specs.Numeral.{Tells};
+ghost use Rattle.words.specs.Length.{wordsIn};
 
 // The number that a text says, or that it says none up to 65,535.
 pub enum Number {
@@ -167,6 +168,7 @@ fn narrowing(i: usize, count: usize) -> Meaning
 // The word after what is said from word i on, or the end of the words.
 pub fn past(meaning: Meaning, i: usize, count: usize) -> usize
     requires { ⌜ i < count ⌝ }
+    ensures { λ r. ⌜ r ≡ min (i + wordsIn meaning) count ⌝ }
     ensures { λ r. ⌜ (i < r) × (r ≤ count) ⌝ }
 {
     let words = length(meaning);
@@ -175,17 +177,18 @@ pub fn past(meaning: Meaning, i: usize, count: usize) -> usize
 
 // How many words say it.
 fn length(meaning: Meaning) -> usize
+    ensures { λ r. ⌜ r ≡ wordsIn meaning ⌝ }
     ensures { λ r. ⌜ (2 ≤ r) × (r ≤ 3) ⌝ }
 {
-    let Meaning::Amendment {
-        kind,
-        first: _,
-        second: _,
-    } = meaning
-    else {
-        return 2;
-    };
-    if kind == 3 { 3 } else { 2 }
+    match meaning {
+        Meaning::Nothing => 2,
+        Meaning::File => 2,
+        Meaning::Amendment {
+            kind,
+            first: _,
+            second: _,
+        } => { if kind == 3 { 3 } else { 2 } }
+    }
 }
 
 // The number that word i says. A word of more than 4,096 bytes says none.

@@ -7,8 +7,8 @@ use lib.ListN.{length, getD}
 use native.Mathlib.Omega.{arith}
 use borrow.Author.Count.{below-more}
 use borrow.Author.Needs.{needs}
-use Rattle.words.specs.Numeral.{valueOf, Says}
-use Rattle.words.specs.Laws.{value-suc, value-none, value-grows}
+use Rattle.words.specs.Numeral.{valueOf}
+use Rattle.words.specs.Laws.{value-suc, value-grows}
 use Rattle.words.proofs.decimal.Statement.{statement}
 use Rattle.words.proofs.decimal.Tie as tie
 
@@ -60,8 +60,19 @@ loop-less : tie.Need-loop-less Inv-loop μ-loop
 loop-less c = search needs
 
 loop-again : tie.Need-loop-again Inv-loop μ-loop
-loop-again c =
-    (omega arith, omega arith, omega arith, omega (arith, value-suc (c .before .before .before .before .before .before .before .before .before .args .text .now) (c .before .before .before .before .before .before .loop .i), ap (valueOf (c .before .before .before .before .before .before .before .before .before .args .text .now)) (add-one (c .before .before .before .before .before .before .loop .i))), below-more _ _ (c .before .before .before .before .before .before .loop .inv .4) (omega arith, omega arith))
+loop-again c = (
+  omega arith,
+  omega arith,
+  omega arith,
+  omega (arith, value-suc s i, ap (valueOf s) (add-one i)),
+  below-more _ _ (c .before .before .before .before .before .before .loop .inv .4) (omega arith, omega arith),
+)
+  where
+    s : List ℕ
+    s = c .before .before .before .before .before .before .before .before .before .args .text .now
+
+    i : ℕ
+    i = c .before .before .before .before .before .before .loop .i
 
 cast-t12 : tie.Need-cast-t12 Inv-loop μ-loop
 cast-t12 c = search needs
