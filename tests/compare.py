@@ -86,7 +86,7 @@ def keyed(rng, pairs, confirm):
                 got = alone("keyer", image, *words), taken(file)
                 end = enumerator.key(image, order, confirm)
                 wanted = enumerator.end_listing(end), None if isinstance(end, tuple) else end.image()
-                yield f"keyer {' '.join(words)}", image, got, wanted, outcomes(image, wanted[0])
+                yield f"keyer {' '.join(words_of(order))}", image, got, wanted, outcomes(image, wanted[0])
                 ends.append(agreed(got[0]))
             try:
                 wanted = agreed(enumerator.together(image, own, confirm).listing())

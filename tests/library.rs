@@ -76,12 +76,11 @@ impl Counts {
         self.same(name, (got, Lent { form, wiring, segments }), (answer, left));
     }
 
-    fn amended(&mut self, name: &str, image: &[u8], amendment: Amendment, answer: Answer, left: Lent) -> Vec<u8> {
-        let Lent { mut form, mut wiring, mut segments } = Lent::longest();
+    fn amended(&mut self, name: &str, image: &[u8], amendment: Amendment, lent: Lent, answer: Answer, left: Lent) -> Vec<u8> {
+        let Lent { mut form, mut wiring, mut segments } = lent;
         let got = wiring::amend(image, amendment, &mut form, &mut wiring, &mut segments);
-        let end = form[..image.len()].to_vec();
-        self.same(name, (got, Lent { form, wiring, segments }), (answer, left));
-        end
+        self.same(name, (got, Lent { form: form.clone(), wiring, segments }), (answer, left));
+        form
     }
 }
 
@@ -95,38 +94,43 @@ fn form_e(counts: &mut Counts) {
 }
 
 fn refusals(counts: &mut Counts) {
+    let short = Refused { number: 8, place: 0 };
     for (form, wiring, segments) in [(E.len() - 1, RUNS, PLACES), (E.len(), RUNS - 1, PLACES), (E.len(), RUNS, PLACES - 1), (0, 0, 0)] {
         let lent = Lent::of(form, wiring, segments);
-        counts.confirmed("a short buffer", &E, lent.clone(), Refused { number: 8, place: 0 }, lent);
+        counts.confirmed("a short buffer", &E, lent.clone(), short, lent.clone());
+        counts.amended("a short buffer, amended", &E, Pin(0), lent.clone(), short, lent);
     }
     for lent in [Lent::longest(), Lent::of(0, 0, 0)] {
-        counts.confirmed("an empty image", &[], lent.clone(), Refused { number: 1, place: 0 }, lent);
+        let empty = Refused { number: 1, place: 0 };
+        counts.confirmed("an empty image", &[], lent.clone(), empty, lent.clone());
+        counts.amended("an empty image, amended", &[], Pin(0), lent.clone(), empty, lent);
     }
     let lent = Lent::longest();
     counts.confirmed("run 3 in state 3", &e_with([2, 1, 1, 3, 1], 1, 9), lent.clone(), Refused { number: 5, place: 3 }, lent.clone());
     for (amendment, number) in [(Pin(5), 12), (Strike(65535), 12), (Narrow(2, 1), 13), (Narrow(3, 9), 14), (Strike(0), 14)] {
-        counts.amended(&format!("{amendment:?}"), &E, amendment, Refused { number, place: 0 }, lent.clone());
+        counts.amended(&format!("{amendment:?}"), &E, amendment, lent.clone(), Refused { number, place: 0 }, lent.clone());
     }
-    counts.amended("an empty image amended", &[], Pin(0), Refused { number: 1, place: 0 }, lent);
 }
 
-/// Each end is worked out by hand; the second amendment is keyed to the form that the first left.
+/// Each end is worked out by hand; a second amendment is keyed to the form that the first left.
 fn amendments(counts: &mut Counts) {
+    let room = || Lent::of(E.len() + SPARE, RUNS + SPARE, PLACES + SPARE);
     let struck_3 = (e_with([2, 1, 1, 0, 2], 2, 2), [1, 1, 0, 0, 1], [0, 0, 0, 3, 3], Accepted { struck: 0, pinned: 1 });
     let struck_4 = (e_with([2, 1, 1, 2, 0], 2, 2), [1, 1, 0, 1, 0], [0, 0, 0, 0, 4], Accepted { struck: 0, pinned: 1 });
     let pinned_1 = (e_with([2, 2, 0, 1, 1], 1, 2), [1, 1, 0, 1, 0], [0, 0, 0, 0, 4], Accepted { struck: 1, pinned: 0 });
     let one_segment = (e_with([2, 1, 1, 2, 2], 1, 1), [1, 1, 0, 1, 1], [0, 0, 0, 0, 0], Accepted { struck: 0, pinned: 2 });
     let mut first = |amendment, (form, wiring, segments, answer): (Vec<u8>, [u8; RUNS], [u16; PLACES], Answer)| {
-        counts.amended(&format!("{amendment:?}"), &E, amendment, answer, Lent::longest().with(&form, &wiring, &segments))
+        let left = room().with(&form, &wiring, &segments);
+        counts.amended(&format!("{amendment:?}"), &E, amendment, room(), answer, left)[..E.len()].to_vec()
     };
     let [after_3, after_4, after_1] = [first(Strike(3), struck_3), first(Strike(4), struck_4), first(Pin(1), pinned_1)];
     first(Narrow(0, 1), one_segment);
 
-    let p12 = Lent::longest().with(&e_with([2, 2, 0, 0, 2], 2, 2), &[1, 1, 0, 0, 1], &[0, 0, 0, 3, 3]);
-    counts.amended("P12: strike 3, pin 1", &after_3, Pin(1), Accepted { struck: 1, pinned: 0 }, p12.clone());
-    counts.amended("P12: pin 1, strike 3", &after_1, Strike(3), Accepted { struck: 0, pinned: 1 }, p12);
-    counts.amended("strike 3, strike 4", &after_3, Strike(4), Refused { number: 14, place: 0 }, Lent::longest());
-    counts.amended("strike 4, strike 3", &after_4, Strike(3), Refused { number: 14, place: 0 }, Lent::longest());
+    let p12 = room().with(&e_with([2, 2, 0, 0, 2], 2, 2), &[1, 1, 0, 0, 1], &[0, 0, 0, 3, 3]);
+    counts.amended("P12: strike 3, pin 1", &after_3, Pin(1), room(), Accepted { struck: 1, pinned: 0 }, p12.clone());
+    counts.amended("P12: pin 1, strike 3", &after_1, Strike(3), room(), Accepted { struck: 0, pinned: 1 }, p12);
+    counts.amended("strike 3, strike 4", &after_3, Strike(4), room(), Refused { number: 14, place: 0 }, room());
+    counts.amended("strike 4, strike 3", &after_4, Strike(3), room(), Refused { number: 14, place: 0 }, room());
 }
 
 fn main() {

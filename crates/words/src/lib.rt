@@ -104,7 +104,7 @@ pub fn asked(count: usize) -> Request {
 pub fn said(i: usize, count: usize) -> Meaning
     requires { ⌜ i < count ⌝ }
 {
-    let mut space = [0u8; 8];
+    let mut space = [0u8; 8]; // a longer word is none of these
     let length = os::arg(i, &mut space);
     let word = &space[..length];
     if same(word, b"pin") {
