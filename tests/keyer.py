@@ -38,7 +38,7 @@ UNSAID = [
     ("pin 65536", 1), ("pin 99999999999999999999999", 1), ("narrow 65536 1", 1), ("narrow 1 65536", 1), ("narrow 1 x", 1), ("narrow x 1", 1),
     ("pin " + "0" * 4096 + "1", 1),   # longer than any word that is read
     ("-o", 1), ("strike 3 -o", 3), ("-o end -o", 3), ("-o end -o other", 3), ("-o end pin 1 -o end", 5),
-    ("-o end pin 65536", 3), ("pin 1 -o end strike x", 5),
+    ("-o end pin 65536", 3), ("pin 1 -o end strike x", 5), ("pin -o end 1", 1), ("narrow 1 -o end 2", 1),
 ]
 
 
@@ -122,6 +122,11 @@ def written(room):
     room.put("end", bytes(9000))
     room.keyed(E, "strike 3 pin 1 -o end".split())
     same("a longer file is overwritten", room.files(), {"end": P12})
+
+    room.put("form", E)
+    with open(room.path("form"), "rb") as form:
+        subprocess.run([*start("keyer"), *"-o form strike 3 pin 1".split()], cwd=room.folder, stdin=form, capture_output=True, timeout=120)
+    same("a form is keyed over itself", room.files(), {"form": P12})
 
     largest = image_of(*struck_grid(256, 1024))
     end = largest[:-4] + bytes([0, 1, 0, 1])   # 256..256
