@@ -80,7 +80,7 @@ def keyed(rng, pairs, confirm):
         file = os.path.join(folder, "end")
         for image, own in pairs:
             ends = []
-            for order in own, own[::-1], rng.sample(own, len(own)):
+            for order in dict.fromkeys(map(tuple, (own, own[::-1], rng.sample(own, len(own))))):   # each different order once
                 at = rng.randint(0, len(order))
                 words = words_of(order[:at]) + ["-o", file] + words_of(order[at:])
                 got = alone("keyer", image, *words), taken(file)
@@ -136,7 +136,7 @@ Kind = collections.namedtuple("Kind", "work count batch outcomes")
 KINDS = {
     "small forms": Kind(small_forms, 20000, 500, UNLAWFUL + ACCEPTED),
     "damaged bytes": Kind(damaged_bytes, 5000, 500, READING),
-    "lists": Kind(lists, 2000, 100, AMENDED + ACCEPTED),
+    "lists": Kind(lists, 1000, 50, AMENDED + ACCEPTED),
     "lent buffers": Kind(lent_buffers, 400, 50, LENT),
     "large forms": Kind(large_forms, 200, 10, UNLAWFUL + ACCEPTED + LARGEST),
     "large lists": Kind(large_lists, 50, 5, ["refused 14", "refused, step above 0", "list accepted", "list refused", "runs struck", "runs pinned", "runs possible"]),
