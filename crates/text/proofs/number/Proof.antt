@@ -6,9 +6,6 @@ use Rattle.text.specs.Laws.{Saying, saying-none, saying-more, says-above
 use borrow.Author.Needs.{needs}
 use Rattle.text.proofs.number.Statement.{statement}
 use Rattle.text.proofs.number.Tie as tie
-use Rattle.text.proofs.number.Reads as reads
-use Rattle.text.proofs.number.Lts as lts
-use Rattle.text.proofs.with_digit.Reads as with-digit-reads
 
 abbrev Inv-loop : tie.InvT-loop
 Inv-loop word value₀ i₀ value i = Saying word i value

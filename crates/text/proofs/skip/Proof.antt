@@ -7,9 +7,6 @@ use Rattle.text.specs.Laws.{unlike, alike, Going, going-none, going-more
 use borrow.Author.Needs.{needs}
 use Rattle.text.proofs.skip.Statement.{statement}
 use Rattle.text.proofs.skip.Tie as tie
-use Rattle.text.proofs.skip.Reads as reads
-use Rattle.text.proofs.skip.Lts as lts
-use Rattle.text.proofs.blank.Reads as blank-reads
 
 abbrev Inv-loop : tie.InvT-loop
 Inv-loop line from over at₀ at = Going over line from at

@@ -6,9 +6,6 @@ use Rattle.text.specs.Words.{Starts, first}
 use borrow.Author.Needs.{needs}
 use Rattle.text.proofs.word.Statement.{statement}
 use Rattle.text.proofs.word.Tie as tie
-use Rattle.text.proofs.word.Reads as reads
-use Rattle.text.proofs.word.Lts as lts
-use Rattle.text.proofs.skip.Reads as skip-reads
 
 abbrev Inv-loop : tie.InvT-loop
 Inv-loop line k start₀ i₀ start i = (start ≤ length line) × (i ≤ k) × Starts line i start
