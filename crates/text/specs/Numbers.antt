@@ -1,4 +1,4 @@
--- The numbers that words say, in decimal digits.
+-- § 9.2: the numbers that words say, in decimal digits.
 use Prim.Native.Nat.{ℕ, zero, suc, _+_, _-_, _*_, _≤_, _<_}
 use mathlib.Core.List.{List}
 use mathlib.Core.Path.{_≡_}

@@ -1,4 +1,4 @@
--- The words of a line: largest parts without blanks, counted from 0.
+-- § 9.2: the words of a line, largest parts without blanks, counted from 0.
 use Prim.Native.Nat.{ℕ, suc, _-_, _≤_, _<_}
 use mathlib.Core.Bool.{Bool, true, false}
 use mathlib.Core.List.{List}
