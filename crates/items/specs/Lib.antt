@@ -1,1 +1,3 @@
 pub mod Within
+pub mod Items
+pub mod Laws

@@ -5,6 +5,7 @@ pub use fields::Gathered;
 pub use fields::gather;
 use text::Decimal;
 ghost use Prim.Native.Nat.{_≤_};
+ghost use Rattle.items.specs.Items.{NumberIn, StateIn, PairIn, Whole, RunIn, CountIn, Reads};
 
 // What is wrong with a word of a line.
 pub enum Fault {
@@ -45,7 +46,9 @@ enum Pair {
     Not { word: u8, fault: Fault },
 }
 
-fn field_of(word: &[u8]) -> Field {
+fn field_of(word: &[u8]) -> Field
+    ensures { λ r. ⌜ NumberIn (now (word .entry)) r ⌝ }
+{
     if word.len() == 0 {
         return Field::Not {
             fault: Fault::NoNumber,
@@ -62,7 +65,9 @@ fn field_of(word: &[u8]) -> Field {
     }
 }
 
-fn state_of(word: &[u8]) -> State {
+fn state_of(word: &[u8]) -> State
+    ensures { λ r. ⌜ StateIn (now (word .entry)) r ⌝ }
+{
     if word.len() == 0 {
         return State::Not {
             fault: Fault::NoState,
@@ -83,7 +88,9 @@ fn state_of(word: &[u8]) -> State {
 }
 
 // The two numbers after the first word.
-fn pair_of(line: &[u8]) -> Pair {
+fn pair_of(line: &[u8]) -> Pair
+    ensures { λ r. ⌜ PairIn (now (line .entry)) r ⌝ }
+{
     let first = field_of(text::word(line, 1));
     let second = field_of(text::word(line, 2));
     match first {
@@ -98,6 +105,7 @@ fn pair_of(line: &[u8]) -> Pair {
 // The item, if the line has no more than this many words.
 fn whole(line: &[u8], words: u8, item: Item) -> Item
     requires { ⌜ words ≤ 4 ⌝ }
+    ensures { λ r. ⌜ Whole (now (line .entry)) words item r ⌝ }
 {
     let more = text::word(line, words as usize);
     if more.len() == 0 {
@@ -109,7 +117,9 @@ fn whole(line: &[u8], words: u8, item: Item) -> Item
     }
 }
 
-fn run_of(line: &[u8]) -> Item {
+fn run_of(line: &[u8]) -> Item
+    ensures { λ r. ⌜ RunIn (now (line .entry)) r ⌝ }
+{
     match pair_of(line) {
         Pair::Not { word, fault } => Item::Wrong { word, fault },
         Pair::Are { a: u, b: v } => match state_of(text::word(line, 3)) {
@@ -119,7 +129,9 @@ fn run_of(line: &[u8]) -> Item {
     }
 }
 
-fn count_of(line: &[u8]) -> Item {
+fn count_of(line: &[u8]) -> Item
+    ensures { λ r. ⌜ CountIn (now (line .entry)) r ⌝ }
+{
     match pair_of(line) {
         Pair::Not { word, fault } => Item::Wrong { word, fault },
         Pair::Are { a: low, b: high } => whole(line, 3, Item::Count { low, high }),
@@ -127,7 +139,9 @@ fn count_of(line: &[u8]) -> Item {
 }
 
 // What a line says: nothing where it is blank or its first word begins with #.
-pub fn read(line: &[u8]) -> Item {
+pub fn read(line: &[u8]) -> Item
+    ensures { λ r. ⌜ Reads (now (line .entry)) r ⌝ }
+{
     let first = text::word(line, 0);
     if first.len() == 0 {
         return Item::Nothing;
