@@ -1,8 +1,9 @@
 -- § 9.1 and § 9.3: what a line says, or which of its words is wrong.
-use Prim.Native.Nat.{ℕ, _+_, _<_}
+use Prim.Native.Nat.{ℕ, _+_}
 use mathlib.Core.List.{List, [], _∷_}
 use mathlib.Core.Path.{_≡_}
 use lib.ListN.{length, getD}
+use Rattle.text.specs.declared.Decimal.{Decimal}
 use Rattle.text.specs.declared.Decimal.the-variants.{Is as Number, Above as TooLarge, Not as NoDecimal}
 use Rattle.text.specs.Numbers.{Says}
 use Rattle.text.specs.Words.{Word}
@@ -39,48 +40,86 @@ possible = 112 ∷ 111 ∷ 115 ∷ 115 ∷ 105 ∷ 98 ∷ 108 ∷ 101 ∷ []
 abbrev pub fixed : List ℕ
 fixed = 102 ∷ 105 ∷ 120 ∷ 101 ∷ 100 ∷ []
 
--- a word that is to be a number
-pub data NumberIn (w : List ℕ) : Field → Type 0 where
-  says : {v : ℕ} → 0 < length w → Says w (Number v) → NumberIn w (Value v)
-  missing : length w ≡ 0 → NumberIn w (NoValue NoNumber)
-  other : 0 < length w → Says w NoDecimal → NumberIn w (NoValue NotDigits)
-  large : 0 < length w → Says w TooLarge → NumberIn w (NoValue Above)
+-- ---- how answers are told apart
+-- this answer
+abbrev pub Only : {R : Type 0} → R → R → Type 0
+Only a r = r ≡ a
 
--- a word that is to be a state, and its number on file (§ 1.3)
-pub data StateIn (w : List ℕ) : State → Type 0 where
-  is-struck : w ≡ struck → StateIn w (Known 0)
-  is-possible : w ≡ possible → StateIn w (Known 1)
-  is-fixed : w ≡ fixed → StateIn w (Known 2)
-  missing : length w ≡ 0 → StateIn w (NoState′ NoState)
-  other : 0 < length w → (w ≡ struck → ⊥) → (w ≡ possible → ⊥) → (w ≡ fixed → ⊥) → StateIn w (NoState′ NotAState)
+-- where P holds what A allows, else what B allows
+pub data If {R : Type 0} (P : Type 0) (A B : R → Type 0) (r : R) : Type 0 where
+  so : P → A r → If P A B r
+  otherwise : (P → ⊥) → B r → If P A B r
 
--- the numbers after a line's first word: words 1 and 2, counted from 0
-pub data PairIn (s : List ℕ) : Pair → Type 0 where
-  both : {v w : List ℕ} {a b : ℕ} → Word s 1 v → NumberIn v (Value a) → Word s 2 w → NumberIn w (Value b) → PairIn s (Are a b)
-  first : {v : List ℕ} {f : Fault} → Word s 1 v → NumberIn v (NoValue f) → PairIn s (NoPair 2 f)
-  second : {v w : List ℕ} {a : ℕ} {f : Fault} → Word s 1 v → NumberIn v (Value a) → Word s 2 w → NumberIn w (NoValue f) → PairIn s (NoPair 3 f)
+-- what K allows for the one that W allows
+pub record With {A R : Type 0} (W : A → Type 0) (K : A → R → Type 0) (r : R) : Type 0 where
+  pub found : A
+  pub meets : W found
+  pub gives : K found r
 
--- an item that takes k words, on a line that may have more
-pub data Whole (s : List ℕ) (k : ℕ) (item : Item) : Item → Type 0 where
-  whole : {w : List ℕ} → Word s k w → length w ≡ 0 → Whole s k item item
-  more : {w : List ℕ} → Word s k w → 0 < length w → Whole s k item (Wrong (k + 1) OneTooMany)
+-- ---- a word that is to be a number
+abbrev pub valueOf : Decimal → Field
+valueOf (Number v) = Value v
+valueOf TooLarge = NoValue Above
+valueOf NoDecimal = NoValue NotDigits
 
-pub data RunIn (s : List ℕ) : Item → Type 0 where
-  ends : {k : ℕ} {f : Fault} → PairIn s (NoPair k f) → RunIn s (Wrong k f)
-  state : {u v : ℕ} {w : List ℕ} {f : Fault} → PairIn s (Are u v) → Word s 3 w → StateIn w (NoState′ f) → RunIn s (Wrong 4 f)
-  all : {u v t : ℕ} {w : List ℕ} {item : Item} → PairIn s (Are u v) → Word s 3 w → StateIn w (Known t) → Whole s 4 (Run u v t) item → RunIn s item
+abbrev pub NumberIn : List ℕ → Field → Type 0
+NumberIn w = If (length w ≡ 0) (Only (NoValue NoNumber)) (With (Says w) (λ d. Only (valueOf d)))
 
-pub data CountIn (s : List ℕ) : Item → Type 0 where
-  ends : {k : ℕ} {f : Fault} → PairIn s (NoPair k f) → CountIn s (Wrong k f)
-  all : {low high : ℕ} {item : Item} → PairIn s (Are low high) → Whole s 3 (Count low high) item → CountIn s item
+-- ---- a word that is to be a state: its number on file (§ 1.3)
+abbrev pub StateIn : List ℕ → State → Type 0
+StateIn w =
+    If (length w ≡ 0) (Only (NoState′ NoState))
+    (If (w ≡ struck) (Only (Known 0))
+    (If (w ≡ possible) (Only (Known 1))
+    (If (w ≡ fixed) (Only (Known 2))
+    (Only (NoState′ NotAState)))))
 
--- a line of a text; 35 is #
-pub data Reads (s : List ℕ) : Item → Type 0 where
-  blank : {w : List ℕ} → Word s 0 w → length w ≡ 0 → Reads s Nothing
-  comment : {w : List ℕ} → Word s 0 w → 0 < length w → getD w 0 0 ≡ 35 → Reads s Nothing
-  a-place : {item : Item} → Word s 0 place → Whole s 1 (Place 0) item → Reads s item
-  a-supply : {item : Item} → Word s 0 supply → Whole s 1 (Place 1) item → Reads s item
-  a-run : {item : Item} → Word s 0 run → RunIn s item → Reads s item
-  a-count : {item : Item} → Word s 0 count → CountIn s item → Reads s item
-  other : {w : List ℕ} → Word s 0 w → 0 < length w → (getD w 0 0 ≡ 35 → ⊥) → (w ≡ place → ⊥) → (w ≡ supply → ⊥) → (w ≡ run → ⊥) → (w ≡ count → ⊥)
-      → Reads s (Wrong 1 NotAnItem)
+-- ---- the numbers after a line's first word: its second and third
+abbrev pub PairWith : ℕ → Field → Pair → Type 0
+PairWith a (Value b) = Only (Are a b)
+PairWith a (NoValue f) = Only (NoPair 3 f)
+
+abbrev pub PairFrom : List ℕ → Field → Pair → Type 0
+PairFrom s (Value a) = With (Word s 2) (λ w. With (NumberIn w) (PairWith a))
+PairFrom s (NoValue f) = Only (NoPair 2 f)
+
+abbrev pub PairIn : List ℕ → Pair → Type 0
+PairIn s = With (Word s 1) (λ w. With (NumberIn w) (PairFrom s))
+
+-- ---- an item that takes k words, if the line has no more
+abbrev pub Whole : List ℕ → ℕ → Item → Item → Type 0
+Whole s k item = With (Word s k) (λ w. If (length w ≡ 0) (Only item) (Only (Wrong (k + 1) OneTooMany)))
+
+-- ---- a run: its ends, and its state
+abbrev pub RunWith : List ℕ → ℕ → ℕ → State → Item → Type 0
+RunWith s u v (Known t) = Whole s 4 (Run u v t)
+RunWith s u v (NoState′ f) = Only (Wrong 4 f)
+
+abbrev pub RunFrom : List ℕ → Pair → Item → Type 0
+RunFrom s (Are u v) = With (Word s 3) (λ w. With (StateIn w) (RunWith s u v))
+RunFrom s (NoPair k f) = Only (Wrong k f)
+
+abbrev pub RunIn : List ℕ → Item → Type 0
+RunIn s = With (PairIn s) (RunFrom s)
+
+-- ---- line four
+abbrev pub CountFrom : List ℕ → Pair → Item → Type 0
+CountFrom s (Are low high) = Whole s 3 (Count low high)
+CountFrom s (NoPair k f) = Only (Wrong k f)
+
+abbrev pub CountIn : List ℕ → Item → Type 0
+CountIn s = With (PairIn s) (CountFrom s)
+
+-- ---- a line: by its first word, which begins a comment with #, 35
+abbrev pub ItemIn : List ℕ → List ℕ → Item → Type 0
+ItemIn s w =
+    If (length w ≡ 0) (Only Nothing)
+    (If (getD w 0 0 ≡ 35) (Only Nothing)
+    (If (w ≡ place) (Whole s 1 (Place 0))
+    (If (w ≡ supply) (Whole s 1 (Place 1))
+    (If (w ≡ run) (RunIn s)
+    (If (w ≡ count) (CountIn s)
+    (Only (Wrong 1 NotAnItem)))))))
+
+abbrev pub Reads : List ℕ → Item → Type 0
+Reads s = With (Word s 0) (ItemIn s)

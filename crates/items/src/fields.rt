@@ -9,8 +9,8 @@ ghost use Prim.Native.Nat.{_≤_};
 ghost use lib.ListN.{length};
 ghost use Rattle.items.specs.Within.{Within, Stays, Fits};
 
-// A byte for each place and the records of the runs are in the lent arrays: how many bytes of each, and line four. Or the first line with
-// a fault, counted from 1, and its word. Or no count up to the end: the line past the last.
+// How many bytes of places and of run records are in the lent arrays, and line four; or the first line that is wrong and its word, both
+// counted from 1; or the line past the last, where there is no count.
 pub enum Gathered {
     Fields {
         places: usize,
@@ -36,6 +36,7 @@ struct SoFar {
     high: u16,
 }
 
+// What one line more makes of it.
 enum Step {
     On { has: SoFar },
     Wrong { word: u8, fault: Fault },
@@ -139,6 +140,24 @@ fn without_return(line: &[u8]) -> &[u8] {
     line
 }
 
+// What the lines have given at the text's end; line is the one past the last.
+fn finished(had: SoFar, line: usize) -> Gathered
+    requires { ⌜ Within had ⌝ }
+    ensures { λ r. ⌜ Fits r ⌝ }
+{
+    if had.counts == 0 {
+        return Gathered::NoCount { line };
+    }
+    Gathered::Fields {
+        places: had.places,
+        records: had.records,
+        line: Range {
+            low: had.low,
+            high: had.high,
+        },
+    }
+}
+
 // Goes through the lines up to the first that is wrong. A line ends at a line feed, and the last one may do without.
 pub fn gather(text: &[u8], places: &mut [u8], runs: &mut [u8]) -> Gathered
     requires { ⌜ (length (now text) ≤ 65536) × (length (now places) ≡ 257) × (length (now runs) ≡ 5125) ⌝ }
@@ -168,15 +187,5 @@ pub fn gather(text: &[u8], places: &mut [u8], runs: &mut [u8]) -> Gathered
         at = end + 1;
         line += 1;
     }
-    if so_far.counts == 0 {
-        return Gathered::NoCount { line };
-    }
-    Gathered::Fields {
-        places: so_far.places,
-        records: so_far.records,
-        line: Range {
-            low: so_far.low,
-            high: so_far.high,
-        },
-    }
+    finished(so_far, line)
 }

@@ -1,16 +1,10 @@
 -- `count_of`: low and high, and no word more.
-use mathlib.Core.Path.{subst}
+use mathlib.Core.Path.{refl, subst}
 use denote.Ref.{now}
-use Rattle.items.specs.Items.{PairIn, CountIn}
-use Rattle.items.specs.Items.CountIn.{ends, all}
-use borrow.Author.Needs.{needs}
+use Rattle.items.specs.Items.{PairIn}
 use borrow.Author.Needs.{needs}
 use Rattle.items.proofs.count_of.Statement.{statement}
 use Rattle.items.proofs.count_of.Tie as tie
-use Rattle.items.proofs.count_of.Reads as reads
-use Rattle.items.proofs.count_of.Lts as lts
-use Rattle.items.proofs.pair_of.Reads as pair-of-reads
-use Rattle.items.proofs.whole.Reads as whole-reads
 
 pair-of-requires : tie.Need-pair-of-requires
 pair-of-requires c κs = search needs
@@ -25,10 +19,10 @@ whole-requires : tie.Need-whole-requires
 whole-requires c κs = search needs
 
 returns : tie.Need-returns
-returns c = ends (subst (PairIn (now (c .before .before .before .before .before .args .line))) (c .before .word .given .1) (c .before .before .before .pair-of .ensures))
+returns c = record { found = _; meets = subst (PairIn (now (c .before .before .before .before .before .args .line))) (c .before .word .given .1) (c .before .before .before .pair-of .ensures); gives = refl }
 
 returns-2 : tie.Need-returns-2
-returns-2 c = all (subst (PairIn (now (c .before .before .before .before .before .before .args .line))) (c .before .before .low .given .1) (c .before .before .before .before .pair-of .ensures)) (c .whole .ensures)
+returns-2 c = record { found = _; meets = subst (PairIn (now (c .before .before .before .before .before .before .args .line))) (c .before .before .low .given .1) (c .before .before .before .before .pair-of .ensures); gives = c .whole .ensures }
 
 pub count-of-spec : {M : Type 1} → statement M
 count-of-spec =

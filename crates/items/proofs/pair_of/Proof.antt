@@ -1,15 +1,10 @@
 -- `pair_of` takes the first of the two words that is no number.
-use mathlib.Core.Path.{subst}
+use mathlib.Core.Path.{refl, subst}
 use denote.Ref.{now}
-use Rattle.items.specs.Items.{NumberIn, both, first, second}
-use borrow.Author.Needs.{needs}
+use Rattle.items.specs.Items.{NumberIn}
 use borrow.Author.Needs.{needs}
 use Rattle.items.proofs.pair_of.Statement.{statement}
 use Rattle.items.proofs.pair_of.Tie as tie
-use Rattle.items.proofs.pair_of.Reads as reads
-use Rattle.items.proofs.pair_of.Lts as lts
-use Rattle.items.proofs.field_of.Reads as field-of-reads
-use Rattle.text.proofs.word.Reads as word-reads
 
 word-requires : tie.Need-word-requires
 word-requires c κs = search needs
@@ -36,13 +31,13 @@ enum-known-second-2 : tie.Need-enum-known-second-2
 enum-known-second-2 c = search needs
 
 returns : tie.Need-returns
-returns c = first (c .before .before .before .before .before .before .word .ensures) (subst (NumberIn (now (c .before .before .before .before .before .before .word .result))) (c .before .first .given .1) (c .before .before .before .before .before .field-of .ensures))
+returns c = record { found = _; meets = c .before .before .before .before .before .before .word .ensures; gives = record { found = _; meets = subst (NumberIn (now (c .before .before .before .before .before .before .word .result))) (c .before .first .given .1) (c .before .before .before .before .before .field-of .ensures); gives = refl } }
 
 returns-2 : tie.Need-returns-2
-returns-2 c = second (c .before .before .before .before .before .before .before .before .before .word .ensures) (subst (NumberIn (now (c .before .before .before .before .before .before .before .before .before .word .result))) (c .before .before .before .before .first2 .given .1) (c .before .before .before .before .before .before .before .before .field-of .ensures)) (c .before .before .before .before .before .before .before .word2 .ensures) (subst (NumberIn (now (c .before .before .before .before .before .before .before .word2 .result))) (c .before .second .given .1) (c .before .before .before .before .before .before .field-of2 .ensures))
+returns-2 c = record { found = _; meets = c .before .before .before .before .before .before .before .before .before .word .ensures; gives = record { found = _; meets = subst (NumberIn (now (c .before .before .before .before .before .before .before .before .before .word .result))) (c .before .before .before .before .first2 .given .1) (c .before .before .before .before .before .before .before .before .field-of .ensures); gives = record { found = _; meets = c .before .before .before .before .before .before .before .word2 .ensures; gives = record { found = _; meets = subst (NumberIn (now (c .before .before .before .before .before .before .before .word2 .result))) (c .before .second .given .1) (c .before .before .before .before .before .before .field-of2 .ensures); gives = refl } } } }
 
 returns-3 : tie.Need-returns-3
-returns-3 c = both (c .before .before .before .before .before .before .before .before .before .word .ensures) (subst (NumberIn (now (c .before .before .before .before .before .before .before .before .before .word .result))) (c .before .before .before .before .first2 .given .1) (c .before .before .before .before .before .before .before .before .field-of .ensures)) (c .before .before .before .before .before .before .before .word2 .ensures) (subst (NumberIn (now (c .before .before .before .before .before .before .before .word2 .result))) (c .before .second2 .given .1) (c .before .before .before .before .before .before .field-of2 .ensures))
+returns-3 c = record { found = _; meets = c .before .before .before .before .before .before .before .before .before .word .ensures; gives = record { found = _; meets = subst (NumberIn (now (c .before .before .before .before .before .before .before .before .before .word .result))) (c .before .before .before .before .first2 .given .1) (c .before .before .before .before .before .before .before .before .field-of .ensures); gives = record { found = _; meets = c .before .before .before .before .before .before .before .word2 .ensures; gives = record { found = _; meets = subst (NumberIn (now (c .before .before .before .before .before .before .before .word2 .result))) (c .before .second2 .given .1) (c .before .before .before .before .before .before .field-of2 .ensures); gives = refl } } } }
 
 pub pair-of-spec : {M : Type 1} → statement M
 pair-of-spec =

@@ -1,18 +1,10 @@
 -- `run_of`: the ends, the state, and no word more.
-use mathlib.Core.Path.{subst}
+use mathlib.Core.Path.{refl, subst}
 use denote.Ref.{now}
-use Rattle.items.specs.Items.{PairIn, StateIn, RunIn}
-use Rattle.items.specs.Items.RunIn.{ends, state, all}
-use borrow.Author.Needs.{needs}
+use Rattle.items.specs.Items.{PairIn, StateIn}
 use borrow.Author.Needs.{needs}
 use Rattle.items.proofs.run_of.Statement.{statement}
 use Rattle.items.proofs.run_of.Tie as tie
-use Rattle.items.proofs.run_of.Reads as reads
-use Rattle.items.proofs.run_of.Lts as lts
-use Rattle.items.proofs.pair_of.Reads as pair-of-reads
-use Rattle.items.proofs.state_of.Reads as state-of-reads
-use Rattle.items.proofs.whole.Reads as whole-reads
-use Rattle.text.proofs.word.Reads as word-reads
 
 pair-of-requires : tie.Need-pair-of-requires
 pair-of-requires c κs = search needs
@@ -39,13 +31,13 @@ whole-requires : tie.Need-whole-requires
 whole-requires c κs = search needs
 
 returns : tie.Need-returns
-returns c = ends (subst (PairIn (now (c .before .before .before .before .before .args .line))) (c .before .word .given .1) (c .before .before .before .pair-of .ensures))
+returns c = record { found = _; meets = subst (PairIn (now (c .before .before .before .before .before .args .line))) (c .before .word .given .1) (c .before .before .before .pair-of .ensures); gives = refl }
 
 returns-2 : tie.Need-returns-2
-returns-2 c = state (subst (PairIn (now (c .before .before .before .before .before .before .before .before .before .before .args .line))) (c .before .before .before .before .before .before .u .given .1) (c .before .before .before .before .before .before .before .before .pair-of .ensures)) (c .before .before .before .before .word2 .ensures) (subst (StateIn (now (c .before .before .before .before .word2 .result))) (c .before .fault .given .1) (c .before .before .before .state-of .ensures))
+returns-2 c = record { found = _; meets = subst (PairIn (now (c .before .before .before .before .before .before .before .before .before .before .args .line))) (c .before .before .before .before .before .before .u .given .1) (c .before .before .before .before .before .before .before .before .pair-of .ensures); gives = record { found = _; meets = c .before .before .before .before .word2 .ensures; gives = record { found = _; meets = subst (StateIn (now (c .before .before .before .before .word2 .result))) (c .before .fault .given .1) (c .before .before .before .state-of .ensures); gives = refl } } }
 
 returns-3 : tie.Need-returns-3
-returns-3 c = all (subst (PairIn (now (c .before .before .before .before .before .before .before .before .before .before .before .args .line))) (c .before .before .before .before .before .before .before .u .given .1) (c .before .before .before .before .before .before .before .before .before .pair-of .ensures)) (c .before .before .before .before .before .word2 .ensures) (subst (StateIn (now (c .before .before .before .before .before .word2 .result))) (c .before .before .state .given .1) (c .before .before .before .before .state-of .ensures)) (c .whole .ensures)
+returns-3 c = record { found = _; meets = subst (PairIn (now (c .before .before .before .before .before .before .before .before .before .before .before .args .line))) (c .before .before .before .before .before .before .before .u .given .1) (c .before .before .before .before .before .before .before .before .before .pair-of .ensures); gives = record { found = _; meets = c .before .before .before .before .before .word2 .ensures; gives = record { found = _; meets = subst (StateIn (now (c .before .before .before .before .before .word2 .result))) (c .before .before .state .given .1) (c .before .before .before .before .state-of .ensures); gives = c .whole .ensures } } }
 
 pub run-of-spec : {M : Type 1} → statement M
 run-of-spec =
