@@ -71,6 +71,7 @@ WRONG = [
     ("ends the other way round", TWO + "run 1 0 fixed\ncount 1 1\n", "refused 5 1: the run's ends are not two of the places, the smaller one first"),
     ("a run to place 2 of 2", "run 0 2 fixed\n" + TWO + "count 1 1\n", "refused 5 0: the run's ends are not two of the places, the smaller one first"),
     ("a run to place 257", TWO + "run 0 257 fixed\ncount 1 1\n", "refused 5 1: the run's ends are not two of the places, the smaller one first"),
+    ("a run from place 256", "supply\nplace\nrun 256 1 possible\ncount 1 1\n", "refused 5 0: the run's ends are not two of the places, the smaller one first"),
     ("a run twice", TWO + "run 0 1 struck\ncount 1 1\n", "refused 6 1: the run has the ends of an earlier run"),
     ("2..1", TWO + "count 2 1\n", "refused 7 0: low is above high"),
     ("65,537 bytes", TWO + "count 1 1\n" + "#" * (65537 - len(TWO) - 10), TOO_LONG),
