@@ -88,6 +88,8 @@ place 2 0 0
 place 3 0 3
 place 4 1 3
 """
+# Both written in at once, and so counted at once: run 2 is struck, and run 4 pinned.
+FORMS.append(("P12: both amendments written in", image_of([1, 0, 0, 0, 1], [(0, 1, 2), (1, 2, 2), (0, 2, 1), (2, 3, 0), (3, 4, 1)], 1, 2), "ok 1 1 2 2\n" + P12_LISTING))
 NO_SUPPLY = image_of([0], [], 1, 1)
 
 # An image, amendments keyed in this order, and the listing's first line: the counts are those of the last filtering. A refusal has its step.

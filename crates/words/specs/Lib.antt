@@ -1,3 +1,1 @@
-pub mod Numeral
 pub mod Length
-pub mod Laws

@@ -1,16 +1,10 @@
-// What a program's words say: files to open or to write, numbers, and amendments.
+// What a program's words say: files to open or to write, and amendments.
 use check::same;
+use text::Decimal;
 ghost use mathlib.Core.Path.{_≡_};
 ghost use Prim.Native.Nat.{_+_, _≤_, _<_, min};
 ghost use Rattle.io.specs.Counts.{Counts};
-ghost use Rattle.words.specs.Numeral.{Tells};
 ghost use Rattle.words.specs.Length.{wordsIn};
-
-// The number that a text says, or that it says none up to 65,535.
-pub enum Number {
-    Is(u16),
-    Missing,
-}
 
 // What is said from one word on: an amendment, its three numbers; '-o' and the name of a file; or neither.
 pub enum Meaning {
@@ -133,7 +127,7 @@ fn of_run(kind: u16, i: usize, count: usize) -> Meaning
         return Meaning::Nothing;
     }
     let run = number_at(i + 1);
-    let Number::Is(first) = run else {
+    let Decimal::Is { value: first } = run else {
         return Meaning::Nothing;
     };
     Meaning::Amendment {
@@ -151,11 +145,11 @@ fn narrowing(i: usize, count: usize) -> Meaning
         return Meaning::Nothing;
     }
     let low = number_at(i + 1);
-    let Number::Is(first) = low else {
+    let Decimal::Is { value: first } = low else {
         return Meaning::Nothing;
     };
     let high = number_at(i + 2);
-    let Number::Is(second) = high else {
+    let Decimal::Is { value: second } = high else {
         return Meaning::Nothing;
     };
     Meaning::Amendment {
@@ -192,40 +186,8 @@ fn length(meaning: Meaning) -> usize
 }
 
 // The number that word i says. A word of more than 4,096 bytes says none.
-fn number_at(i: usize) -> Number {
+fn number_at(i: usize) -> Decimal {
     let mut space = [0u8; 4096];
     let length = os::arg(i, &mut space);
-    decimal(&space[..length])
-}
-
-// The number that decimal digits say; other texts say none.
-pub fn decimal(text: &[u8]) -> Number
-    ensures { λ r. ⌜ Tells (now (text .entry)) r ⌝ }
-{
-    if text.len() == 0 {
-        return Number::Missing;
-    }
-    let mut value = 0;
-    let mut i = 0;
-    while i < text.len() {
-        let digit = wide(text[i]);
-        if digit < 48 {
-            return Number::Missing;
-        }
-        if 57 < digit {
-            return Number::Missing;
-        }
-        value = 10 * value + (digit - 48);
-        if 65535 < value {
-            return Number::Missing;
-        }
-        i += 1;
-    }
-    Number::Is(value as u16)
-}
-
-fn wide(x: u8) -> usize
-    ensures { λ r. ⌜ r ≡ x ⌝ }
-{
-    x as usize
+    text::number(&space[..length])
 }

@@ -1,0 +1,4 @@
+pub mod Within
+pub mod Items
+pub mod Laws
+pub mod One
