@@ -1,3 +1,9 @@
 pub mod Kinds
-pub mod Laws
 pub mod One
+pub mod Grown
+pub mod Climbed
+pub mod Links
+pub mod Supplied
+pub mod Growing
+pub mod Routine
+pub mod Steps

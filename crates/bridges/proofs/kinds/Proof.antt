@@ -1,71 +1,107 @@
-use Prim.Native.Nat.{_-_, _<_}
+use Prim.Native.Nat.{ℕ, _-_, _≤_, _<_}
+use denote.Ref.{now}
 use mathlib.Core.Logic.{⊎-elim}
+use mathlib.Core.Path.{_≡_, refl, sym, ap, subst}
 use native.Mathlib.Omega.{arith}
+use Rattle.bridges.specs.Routine.{orderAt}
+use Rattle.bridges.specs.Steps.{Marking, marking-none, marking-skip, marking-climb, struck-run, run-ends, way-to, crossed, kinds-told}
+use Rattle.pieces.specs.Holds.{at}
 use borrow.Author.Needs.{needs}
-use Rattle.bridges.specs.Laws.{ends-below, Marked, marked-none, marked-struck, marked-joined, marked-kind, marked-all}
 use Rattle.bridges.proofs.kinds.Statement.{statement}
 use Rattle.bridges.proofs.kinds.Tie as tie
+use Rattle.bridges.proofs.kinds.Reads as reads
+use Rattle.bridges.proofs.kinds.Lts as lts
+use Rattle.bridges.proofs.climb.Reads as climb-reads
+use Rattle.bridges.proofs.conclude.Reads as conclude-reads
+use Rattle.bridges.proofs.fed.Reads as fed-reads
+use Rattle.bridges.proofs.grow.Reads as grow-reads
+use Rattle.bridges.proofs.wide.Reads as wide-reads
+use Rattle.layout.proofs.run_at.Reads as run-at-reads
 
 abbrev Inv-loop : tie.InvT-loop
-Inv-loop places runs m states kinds₀ labels₀ r₀ kinds labels r = Marked places runs states m kinds labels r
+Inv-loop places runs m states rank up via order passed₀ r₀ passed r = (r ≤ m) × Marking (orderAt places runs states m) rank up via passed r
 
 abbrev μ-loop : tie.MeasureT-loop
-μ-loop places runs m states kinds₀ labels₀ r₀ kinds labels r = m - r
+μ-loop places runs m states rank up via order passed₀ r₀ passed r = m - r
 
-alone-requires : tie.Need-alone-requires Inv-loop μ-loop
-alone-requires c κs = search needs
+-- src/lib.rt:33:9
+grow-requires : tie.Need-grow-requires Inv-loop μ-loop
+grow-requires c κs = search needs
 
+-- src/lib.rt:40:5
 loop-holds : tie.Need-loop-holds Inv-loop μ-loop
-loop-holds c = marked-none _ _ _ _ (c .alone .ensures)
+loop-holds c = (omega arith, marking-none)
 
+-- src/lib.rt:41:16
 array-read-if1 : tie.Need-array-read-if1 Inv-loop μ-loop
-array-read-if1 c = omega (arith, c .before .before .before .before .before .pre .few)
+array-read-if1 c = search needs
 
+-- src/lib.rt:42:17
 run-at-requires : tie.Need-run-at-requires Inv-loop μ-loop
-run-at-requires c κs = omega (arith, c .before .before .before .before .before .before .pre .there)
+run-at-requires c κs = search needs
 
--- both ends of the run that was read are places
-ends : (c : tie.After-run-at Inv-loop μ-loop) → (c .run-at .result .u < 256) × (c .run-at .result .v < 256)
-ends c = ends-below (c .before .before .before .before .before .before .before .pre) (c .before .before .loop-test .taken) (c .run-at .ensures)
+-- src/lib.rt:45:21
+mul-wide : tie.Need-mul-wide Inv-loop μ-loop
+mul-wide c = let e = (run-ends (now (c .before .before .before .before .before .before .before .before .before .before .before .args .places)) (now (c .before .before .before .before .before .before .before .before .before .before .before .args .runs)) (c .before .before .before .before .before .before .before .before .before .before .before .args .m) (c .before .before .before .before .before .before .before .before .before .before .before .pre) (omega arith) (c .run-at .ensures)) .0 in let f = (c .before .before .before .before .before .before .before .before .before .before .before .pre) .small in omega arith
 
-mul-if2 : tie.Need-mul-if2 Inv-loop μ-loop
-mul-if2 c = let e = ends c in omega arith
+-- src/lib.rt:45:21
+array-read-wide : tie.Need-array-read-wide Inv-loop μ-loop
+array-read-wide c = omega (arith, (run-ends (now (c .before .before .before .before .before .before .before .before .before .before .before .args .places)) (now (c .before .before .before .before .before .before .before .before .before .before .before .args .runs)) (c .before .before .before .before .before .before .before .before .before .before .before .args .m) (c .before .before .before .before .before .before .before .before .before .before .before .pre) (omega arith) (c .run-at .ensures)) .0, (c .before .before .before .before .before .before .before .before .before .before .before .pre) .small)
 
-array-read-if2 : tie.Need-array-read-if2 Inv-loop μ-loop
-array-read-if2 c = ends c .0
+-- src/lib.rt:45:16
+wide-requires : tie.Need-wide-requires Inv-loop μ-loop
+wide-requires c κs = search needs
 
-mul-if2-2 : tie.Need-mul-if2-2 Inv-loop μ-loop
-mul-if2-2 c = let e = ends c in omega arith
+-- src/lib.rt:46:25
+mul-wide-2 : tie.Need-mul-wide-2 Inv-loop μ-loop
+mul-wide-2 c = let e = (run-ends (now (c .before .before .before .before .before .before .before .before .before .before .before .before .before .args .places)) (now (c .before .before .before .before .before .before .before .before .before .before .before .before .before .args .runs)) (c .before .before .before .before .before .before .before .before .before .before .before .before .before .args .m) (c .before .before .before .before .before .before .before .before .before .before .before .before .before .pre) (omega arith) (c .before .before .run-at .ensures)) .1 in let f = (c .before .before .before .before .before .before .before .before .before .before .before .before .before .pre) .small in omega arith
 
-array-read-if2-2 : tie.Need-array-read-if2-2 Inv-loop μ-loop
-array-read-if2-2 c = ends c .1
+-- src/lib.rt:46:25
+array-read-wide-2 : tie.Need-array-read-wide-2 Inv-loop μ-loop
+array-read-wide-2 c = omega (arith, (run-ends (now (c .before .before .before .before .before .before .before .before .before .before .before .before .before .args .places)) (now (c .before .before .before .before .before .before .before .before .before .before .before .before .before .args .runs)) (c .before .before .before .before .before .before .before .before .before .before .before .before .before .args .m) (c .before .before .before .before .before .before .before .before .before .before .before .before .before .pre) (omega arith) (c .before .before .run-at .ensures)) .1, (c .before .before .before .before .before .before .before .before .before .before .before .before .before .pre) .small)
 
-kind-requires : tie.Need-kind-requires Inv-loop μ-loop
-kind-requires c κs = (c .before .before .before .before .before .before .before .before .pre, c .before .before .before .loop-test .taken)
+-- src/lib.rt:46:20
+wide-requires-2 : tie.Need-wide-requires-2 Inv-loop μ-loop
+wide-requires-2 c κs = search needs
 
-array-write-kinds : tie.Need-array-write-kinds Inv-loop μ-loop
-array-write-kinds c = omega (arith, c .before .before .before .before .before .before .before .before .before .pre .few)
+-- src/lib.rt:47:21
+climb-requires : tie.Need-climb-requires Inv-loop μ-loop
+climb-requires c κs = ((orderAt (now (c .before .before .before .before .before .before .before .before .before .before .before .before .before .before .before .before .before .before .args .places)) (now (c .before .before .before .before .before .before .before .before .before .before .before .before .before .before .before .before .before .before .args .runs)) (c .before .before .before .before .before .before .before .before .before .before .before .before .before .before .before .before .before .before .args .t3) (c .before .before .before .before .before .before .before .before .before .before .before .before .before .before .before .before .before .before .args .m), at (c .before .before .before .before .before .before .before .before .before .before .before .before .before .before .before .grow .result .via), crossed (now (c .before .before .before .before .before .before .before .before .before .before .before .before .before .before .before .before .before .before .args .places)) (now (c .before .before .before .before .before .before .before .before .before .before .before .before .before .before .before .before .before .before .args .runs)) (c .before .before .before .before .before .before .before .before .before .before .before .before .before .before .before .before .before .before .args .t3) (c .before .before .before .before .before .before .before .before .before .before .before .before .before .before .before .before .before .before .args .m) (c .before .before .before .before .before .before .before .before .before .before .before .before .before .before .before .before .before .before .pre) (c .before .before .before .before .before .before .before .before .before .before .before .before .before .before .before .grow .result .rank) (c .before .before .before .before .before .before .before .before .before .before .before .before .before .before .before .grow .result .up) (c .before .before .before .before .before .before .before .before .before .before .before .before .before .before .before .grow .result .via) (c .before .before .before .before .before .before .before .before .before .before .before .before .before .before .before .grow .ensures .0) (omega arith) (c .before .before .before .before .before .before .before .run-at .ensures) (omega arith) (λ e. omega arith) (λ e. omega arith)), c .before .before .before .before .before .before .before .before .before .before .loop .inv .1 .size)
 
-join-requires : tie.Need-join-requires Inv-loop μ-loop
-join-requires c κs = ends (c .before .before)
-
+-- src/lib.rt:51:9
 add-r : tie.Need-add-r Inv-loop μ-loop
 add-r c = search needs
 
+-- src/lib.rt:40:5
 loop-less : tie.Need-loop-less Inv-loop μ-loop
 loop-less c = search needs
 
+-- src/lib.rt:40:5
 loop-again : tie.Need-loop-again Inv-loop μ-loop
-loop-again c = let k = c .before .before .loop .inv in let l = c .before .loop-test .taken in let fits = c .before .before .before .before .before .before .pre in
-    ⊎-elim
-    (λ w. rw (w .5) (rw (w .6) (marked-kind k l fits (w .0 .taken) (w .1 .ensures) (w .3 .ensures) (w .4 .ensures))))
-    (⊎-elim
-    (λ w. rw (w .3) (rw (w .4) (marked-joined k l fits (w .0 .taken) (w .1 .ensures) (w .2 .left))))
-    (λ w. rw (w .1) (rw (w .2) (marked-struck k l (w .0 .left)))))
-    (c .if1 .came)
+loop-again c = (
+  omega arith,
+  ⊎-elim
+      (λ w. rw (w .10) (marking-climb (c .before .before .loop .inv .1) (w .1 .ensures .one) (w .1 .ensures .other) (w .9 .ensures (orderAt (now (c .before .before .before .before .before .before .before .before .before .before .args .places)) (now (c .before .before .before .before .before .before .before .before .before .before .args .runs)) (c .before .before .before .before .before .before .before .before .before .before .args .t3) (c .before .before .before .before .before .before .before .before .before .before .args .m)) (at (c .before .before .before .before .before .before .before .grow .result .via))
+      (crossed (now (c .before .before .before .before .before .before .before .before .before .before .args .places)) (now (c .before .before .before .before .before .before .before .before .before .before .args .runs)) (c .before .before .before .before .before .before .before .before .before .before .args .t3) (c .before .before .before .before .before .before .before .before .before .before .args .m) (c .before .before .before .before .before .before .before .before .before .before .pre) (c .before .before .before .before .before .before .before .grow .result .rank) (c .before .before .before .before .before .before .before .grow .result .up) (c .before .before .before .before .before .before .before .grow .result .via) (c .before .before .before .before .before .before .before .grow .ensures .0) (omega arith) (w .1 .ensures) (w .0 .taken) (λ e. omega (arith, e, w .3 .taken, w .2 .ensures)) (λ e. omega (arith, e, w .5 .taken, w .4 .ensures))))))
+      (⊎-elim
+      (λ w. let e = run-ends (now (c .before .before .before .before .before .before .before .before .before .before .args .places)) (now (c .before .before .before .before .before .before .before .before .before .before .args .runs)) (c .before .before .before .before .before .before .before .before .before .before .args .m) (c .before .before .before .before .before .before .before .before .before .before .pre) (omega arith) (w .1 .ensures) in rw (w .6) (marking-skip (c .before .before .loop .inv .1) (way-to (now (c .before .before .before .before .before .before .before .before .before .before .args .places)) (now (c .before .before .before .before .before .before .before .before .before .before .args .runs)) (c .before .before .before .before .before .before .before .before .before .before .args .t3) (c .before .before .before .before .before .before .before .before .before .before .args .m) (c .before .before .before .before .before .before .before .grow .result .via) (c .before .before .loop .r) (w .1 .result .v) (e .1) (omega (arith, w .5 .left, w .4 .ensures)))))
+      (⊎-elim
+      (λ w. let e = run-ends (now (c .before .before .before .before .before .before .before .before .before .before .args .places)) (now (c .before .before .before .before .before .before .before .before .before .before .args .runs)) (c .before .before .before .before .before .before .before .before .before .before .args .m) (c .before .before .before .before .before .before .before .before .before .before .pre) (omega arith) (w .1 .ensures) in rw (w .4) (marking-skip (c .before .before .loop .inv .1) (way-to (now (c .before .before .before .before .before .before .before .before .before .before .args .places)) (now (c .before .before .before .before .before .before .before .before .before .before .args .runs)) (c .before .before .before .before .before .before .before .before .before .before .args .t3) (c .before .before .before .before .before .before .before .before .before .before .args .m) (c .before .before .before .before .before .before .before .grow .result .via) (c .before .before .loop .r) (w .1 .result .u) (e .0) (omega (arith, w .3 .left, w .2 .ensures)))))
+      (λ w. rw (w .1) (marking-skip (c .before .before .loop .inv .1) (struck-run (now (c .before .before .before .before .before .before .before .before .before .before .args .places)) (now (c .before .before .before .before .before .before .before .before .before .before .args .runs)) (c .before .before .before .before .before .before .before .before .before .before .args .t3) (c .before .before .before .before .before .before .before .before .before .before .args .m) (c .before .before .before .before .before .before .before .grow .result .via) (c .before .before .loop .r) (omega (arith, w .0 .left))))))) (c .if1 .came),
+)
 
+-- src/lib.rt:53:9
+fed-requires : tie.Need-fed-requires Inv-loop μ-loop
+fed-requires c κs = record { few = (c .before .before .before .before .before .before .before .before .before .pre) .small; places = λ k l. c .before .before .before .before .before .before .grow .ensures .1 .ordered k l .0; ups = λ x l v. (c .before .before .before .before .before .before .grow .ensures .0) .reached x l v .place }
+
+-- src/lib.rt:54:5
+conclude-requires : tie.Need-conclude-requires Inv-loop μ-loop
+conclude-requires c κs = ((c .before .before .before .before .before .before .before .before .before .before .pre) .small, (c .before .before .before .before .before .before .before .before .before .before .pre) .few)
+
+-- src/lib.rt:29:1
 returns : tie.Need-returns Inv-loop μ-loop
-returns c = marked-all (c .before .loop .inv) (c .loop-test .left)
+returns c = let e : c .before .before .before .loop .r ≡ c .before .before .before .before .before .before .before .before .before .before .before .args .m = omega arith in kinds-told (now (c .before .before .before .before .before .before .before .before .before .before .before .args .places)) (now (c .before .before .before .before .before .before .before .before .before .before .before .args .runs)) (c .before .before .before .before .before .before .before .before .before .before .before .args .t3) (c .before .before .before .before .before .before .before .before .before .before .before .args .m) (c .before .before .before .before .before .before .before .before .grow .ensures .0) (subst (Marking (orderAt (now (c .before .before .before .before .before .before .before .before .before .before .before .args .places)) (now (c .before .before .before .before .before .before .before .before .before .before .before .args .runs)) (c .before .before .before .before .before .before .before .before .before .before .before .args .t3) (c .before .before .before .before .before .before .before .before .before .before .before .args .m)) (c .before .before .before .before .before .before .before .before .grow .result .rank) (c .before .before .before .before .before .before .before .before .grow .result .up) (c .before .before .before .before .before .before .before .before .grow .result .via) (c .before .before .before .loop .passed)) e (c .before .before .before .loop .inv .1))
+    (c .before .fed .ensures (orderAt (now (c .before .before .before .before .before .before .before .before .before .before .before .args .places)) (now (c .before .before .before .before .before .before .before .before .before .before .before .args .runs)) (c .before .before .before .before .before .before .before .before .before .before .before .args .t3) (c .before .before .before .before .before .before .before .before .before .before .before .args .m)) (c .before .before .before .before .before .before .before .before .grow .result .rank) (record { grown = (c .before .before .before .before .before .before .before .before .grow .ensures .0); ranked = c .before .before .before .before .before .before .before .before .grow .ensures .1; as-many = refl; as-runs = refl; supply = λ y. refl })) (c .conclude .ensures)
 
 pub kinds-spec : {M : Type 1} → statement M
 kinds-spec =
@@ -73,18 +109,20 @@ kinds-spec =
     (tie.spec
     Inv-loop
     μ-loop
-    alone-requires
+    grow-requires
     loop-holds
     array-read-if1
     run-at-requires
-    mul-if2
-    array-read-if2
-    mul-if2-2
-    array-read-if2-2
-    kind-requires
-    array-write-kinds
-    join-requires
+    mul-wide
+    array-read-wide
+    wide-requires
+    mul-wide-2
+    array-read-wide-2
+    wide-requires-2
+    climb-requires
     add-r
     loop-less
     loop-again
+    fed-requires
+    conclude-requires
     returns)
