@@ -136,7 +136,7 @@ Kind = collections.namedtuple("Kind", "work count batch outcomes")
 KINDS = {
     "small forms": Kind(small_forms, 20000, 500, UNLAWFUL + ACCEPTED),
     "damaged bytes": Kind(damaged_bytes, 5000, 500, READING),
-    "lists": Kind(lists, 1000, 50, AMENDED + ACCEPTED),
+    "lists": Kind(lists, 2000, 50, AMENDED + ACCEPTED),
     "lent buffers": Kind(lent_buffers, 400, 50, LENT),
     "large forms": Kind(large_forms, 200, 10, UNLAWFUL + ACCEPTED + LARGEST),
     "large lists": Kind(large_lists, 50, 5, ["refused 14", "refused, step above 0", "list accepted", "list refused", "runs struck", "runs pinned", "runs possible"]),
