@@ -1,6 +1,6 @@
 -- A list of calls of `amend`: what each leaves, and what stands in the buffers at the end.
 use Prim.Native.Nat.{ℕ, zero, suc, _+_, _*_, _/_, _%_, _<_}
-use mathlib.Core.List.{List, [], _∷_}
+use mathlib.Core.List.{List}
 use mathlib.Core.Path.{_≡_, refl, sym, ap, ap₂, subst, _∙_}
 use lib.ListN.{length, getD, set, take, drop}
 use lib.Seq.{take-at, set-getD, ext-getD}

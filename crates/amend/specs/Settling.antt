@@ -1,6 +1,6 @@
 -- The ways out of an amendment, each as an outcome of the whole table.
-use Prim.Native.Nat.{ℕ, min, _+_, _≤_}
-use mathlib.Core.List.{List, [], _∷_, _++_}
+use Prim.Native.Nat.{ℕ, min}
+use mathlib.Core.List.{List}
 use mathlib.Core.Path.{_≡_, refl, sym, ap, subst, _∙_}
 use lib.ListN.{length}
 use native.Mathlib.Omega.{arith}
@@ -8,7 +8,7 @@ use Rattle.amend.specs.Amending.{Says, pins, strikes, narrows, Run, Name
 use Rattle.amend.specs.Fields.{written-alike, written-states, written-low, written-high, written-sound, written-wholes}
 use Rattle.answer.specs.Laws.{not-refused, cleared, clears-front, clears-back, onward, refuses, passes, ends, later, refusal-of, settled-as, fact}
 use Rattle.answer.specs.Reply.{Reply, accepted, refused, Counts}
-use Rattle.answer.specs.Table.{Row, whole, Clears, Outcome, Settled}
+use Rattle.answer.specs.Table.{Clears, Settled}
 use Rattle.filter.specs.Demand2.{lawful-confirmed}
 use Rattle.filter.specs.Filtered.{Lent, Left, Room, Accepted, confirmedFields, laterRows, filterRows}
 use Rattle.filter.specs.Filtered.{Leaves as Filters}
@@ -19,10 +19,9 @@ use Rattle.layout.specs.Laws.{fields-sound, whole-runs, counts}
 use Rattle.layout.specs.Rows.{fieldsOf, readRows, soundRows}
 use Rattle.wirings.specs.Amendments.{Amendment, pin, strike, narrow, WellFormed, Obeys, Clash, amended, amended-alike, amendment-cuts, clash-none, well-formed-as, obeys-as}
 use Rattle.wirings.specs.Confirmed.{Confirmed}
-use Rattle.wirings.specs.Limits.{counts-one}
-use Rattle.wirings.specs.OfForm.{orderOf, order-sound}
-use Rattle.wirings.specs.Same.{Agree, agree-sym, confirmed, confirmed-sound, keeps}
-use Rattle.wirings.specs.Standing.{alike-trans, agree-trans, agree-same}
+use Rattle.wirings.specs.OfForm.{orderOf}
+use Rattle.wirings.specs.Same.{Agree, agree-sym, confirmed}
+use Rattle.wirings.specs.Standing.{alike-trans, agree-same}
 use Rattle.wirings.specs.Theorem1.{orderRows}
 use Rattle.wirings.specs.Wiring.{Order, Wiring, Lawful}
 

@@ -5,7 +5,7 @@ use mathlib.Core.Path.{_≡_, refl, sym, ap, ap₂, subst, _∙_}
 use lib.ListN.{length, getD, set, length-set, drop-of-length-le}
 use lib.Seq.{take-at, set-append-left, getD-take, getD-append-add}
 use native.Mathlib.Omega.{arith}
-use Rattle.amend.specs.Amending.{Says, pins, strikes, narrows, Run, written, Marks, stood, put, WritesIn, unnamed, reversed, clashing, done}
+use Rattle.amend.specs.Amending.{Says, pins, strikes, narrows, Run, Marks, stood, put, WritesIn, unnamed, reversed, clashing, done}
 use Rattle.answer.specs.Laws.{not-refused, settled-last}
 use Rattle.answer.specs.Table.{Clears}
 use Rattle.layout.specs.Image.{head, up-to-runs, up-to-line, length-image, n-is, m-is, fields-back, read-back}

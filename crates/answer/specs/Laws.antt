@@ -9,7 +9,7 @@ use native.Mathlib.Decide.{decLt}
 use native.Mathlib.Nat.{le-refl}
 use native.Mathlib.Omega.{arith}
 use Rattle.answer.specs.Reply.{Reply, accepted, refused}
-use Rattle.answer.specs.Table.{First, Going, Row, each, whole, Fault, Clear, Clears, Outcome, Refuses, Settled, Decides, holds, fails}
+use Rattle.answer.specs.Table.{First, Going, Row, each, whole, Clears, Outcome, Refuses, Settled, Decides, holds, fails}
 
 -- ---- an acceptance is no refusal, and a refusal is the same beside values of any kind
 pub not-refused : {A : Type 0} {a : A} {n k : ℕ} → _≡_ {A = Reply A} (accepted a) (refused n k) → ⊥

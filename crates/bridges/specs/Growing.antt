@@ -9,7 +9,7 @@ use native.Mathlib.Decide.{ℕ-discrete, decLt}
 use native.Mathlib.Nat.{le-refl}
 use native.Mathlib.Omega.{arith}
 use Rattle.bridges.specs.Grown.{Reached, Grown}
-use Rattle.bridges.specs.Links.{Entry, entry-leads, leads-entry, entry-below, entry-one, Before, Linked}
+use Rattle.bridges.specs.Links.{Entry, entry-leads, entry-below, Before, Linked}
 use Rattle.pieces.specs.Holds.{at}
 use Rattle.wirings.specs.Joined.{leads-back}
 use Rattle.wirings.specs.Limits.{Unstruck, counts-alike}

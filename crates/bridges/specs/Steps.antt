@@ -1,5 +1,5 @@
 -- One turn of each loop of the routine, and what the parts give together.
-use Prim.Native.Nat.{ℕ, zero, suc, _+_, _-_, _*_, _/_, _%_, _≤_, _<_}
+use Prim.Native.Nat.{ℕ, zero, suc, _+_, _-_, _*_, _/_, _≤_, _<_}
 use mathlib.Core.List.{List}
 use mathlib.Core.Logic.{_↔_, _⊎_, inl, inr, ⊎-elim}
 use mathlib.Core.Path.{_≡_, refl, sym, ap, subst, _∙_}
@@ -9,19 +9,18 @@ use native.Mathlib.Decide.{ℕ-discrete, decLt}
 use native.Mathlib.Omega.{arith}
 use Rattle.bridges.specs.Climbed.{Passed, Climbed}
 use Rattle.bridges.specs.Grown.{Grown, Under, Outside, outside-run, way-or-outside, outside-bypassed, via-one, bridge-fed, bridge-bare, bridge-bypassed}
-use Rattle.bridges.specs.Growing.{Placed, Arrives, place-more, placed-less, later-more, Spread, Later, later-same, spread-entry, spread-next, spread-root, Roots, roots-none, roots-pass, roots-more, grown}
+use Rattle.bridges.specs.Growing.{Placed, Arrives, place-more, later-more, Spread, Later, later-same, spread-entry, spread-next, spread-root, Roots, roots-none, roots-pass, roots-more, grown}
 use Rattle.bridges.specs.Kinds.{Kinds}
-use Rattle.bridges.specs.Links.{Entry, at-u, at-v, entry-leads, leads-entry, entry-below, entry-one, Linked, linked-none, linked-skip, linked-add}
-use Rattle.bridges.specs.Routine.{orderAt, Links, Far, Candidate, supply, place, none, Ranked, Crossed, Copied, Of, Ruled, round, supplied, bare, Told}
+use Rattle.bridges.specs.Links.{Entry, at-u, at-v, entry-leads, leads-entry, entry-below, entry-one, Linked, linked-skip, linked-add}
+use Rattle.bridges.specs.Routine.{orderAt, Far, Candidate, supply, place, none, Ranked, Crossed, Copied, Of, Ruled, round, supplied, bare, Told}
 use Rattle.bridges.specs.Supplied.{Feeding, feeding-start, feeding-up, feeding-pass}
 use Rattle.layout.specs.Layout.{sizes, endU, endV, Shows}
 use Rattle.pieces.specs.Holds.{at, Fits}
 use Rattle.wirings.specs.Alike.{Alike, alike-sym, joined-as, fed-as}
-use Rattle.wirings.specs.Joined.{leads-back, joined-mono, fed-mono}
+use Rattle.wirings.specs.Joined.{leads-back}
 use Rattle.wirings.specs.Limits.{Unstruck}
 use Rattle.wirings.specs.Marks.{Others, Bridge, bypassed}
 use Rattle.wirings.specs.Marks.{supplied as both-fed, bare as one-bare}
-use Rattle.wirings.specs.OfForm.{Described, States}
 use Rattle.wirings.specs.Wiring.{Order, Leads, along, back, Joined, here, on, Fed, Counts, none as no-count, one, skip}
 
 -- an array of zeros has nothing else

@@ -1,12 +1,10 @@
 -- From the parts to the confirmation.
-use Prim.Native.Nat.{ℕ, zero, suc, min, max, _+_, _-_, _≤_, _<_}
-use mathlib.Core.Bool.{Bool, true, false}
+use Prim.Native.Nat.{ℕ, zero, suc, min, max, _-_, _≤_}
 use mathlib.Core.List.{List}
 use mathlib.Core.Path.{_≡_, refl, sym, ap, subst, _∙_}
-use lib.ListN.{length, getD}
+use lib.ListN.{getD}
 use native.Mathlib.Omega.{arith}
 use Rattle.answer.specs.Laws.{not-refused, cleared, fact}
-use Rattle.answer.specs.Reply.{accepted, refused}
 use Rattle.answer.specs.Table.{Clears}
 use Rattle.confirm.specs.Judged.{StatesOf, Settles, Judges}
 use Rattle.confirm.specs.Judging.{fields-fit}
@@ -17,17 +15,16 @@ use Rattle.layout.specs.declared.Checked.the-variants.{Sound, Unsound}
 use Rattle.layout.specs.Layout.{sizes, runsIn, Fields}
 use Rattle.layout.specs.Rows.{soundRows}
 use Rattle.bridges.specs.Kinds.{Kinds}
-use Rattle.pieces.specs.Holds.{at, Holds}
+use Rattle.pieces.specs.Holds.{at}
 use Rattle.scan.specs.Scans.{Scanned, Scans}
 use Rattle.wirings.specs.Chosen.{flagged}
 use Rattle.wirings.specs.Confirmed.{Confirmed, Lowest, Highest, SegmentNumber}
-use Rattle.wirings.specs.First.{top, bottom, lowest, highest, first-wiring, segment-number}
-use Rattle.wirings.specs.Labels.{label}
-use Rattle.wirings.specs.Limits.{fixedRuns, least, most, counts-alike}
+use Rattle.wirings.specs.First.{top, lowest, highest, first-wiring, segment-number}
+use Rattle.wirings.specs.Limits.{fixedRuns, counts-alike}
 use Rattle.wirings.specs.OfForm.{orderOf, order-sound, order-line, Described}
 use Rattle.wirings.specs.Pieces.{pieces, stock, fedPieces}
 use Rattle.wirings.specs.Scan.{Goes}
-use Rattle.wirings.specs.Tally.{when, When, same, apart, whens, tally, tally-le}
+use Rattle.wirings.specs.Tally.{When, same, apart, whens, tally, tally-le}
 use Rattle.wirings.specs.Theorem1.{Meets, start}
 use Rattle.wirings.specs.Wiring.{Order, Counts}
 

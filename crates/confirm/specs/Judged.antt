@@ -1,9 +1,9 @@
 -- A verdict on numbers 9 to 11 of the paper's table, and what is known once they are passed.
-use Prim.Native.Nat.{ℕ, min, max, _≤_, _<_}
+use Prim.Native.Nat.{ℕ, min, _≤_, _<_}
 use mathlib.Core.List.{List}
 use mathlib.Core.Path.{_≡_}
 use lib.ListN.{length, getD}
-use Rattle.answer.specs.Reply.{Reply, accepted, refused}
+use Rattle.answer.specs.Reply.{accepted, refused}
 use Rattle.answer.specs.Table.{First, Settled}
 use Rattle.layout.specs.Checked.{told}
 use Rattle.layout.specs.declared.Checked.{Checked}

@@ -1,28 +1,27 @@
 -- From what the piece finder found by the fixed runs and by the unstruck ones to numbers 9 to 11.
-use Prim.Native.Nat.{ℕ, min, _+_, _*_, _≤_, _<_}
-use mathlib.Core.Bool.{Bool, true, false}
+use Prim.Native.Nat.{ℕ, min, _≤_, _<_}
 use mathlib.Core.List.{List}
-use mathlib.Core.Path.{_≡_, refl, sym, ap, ap₂, subst, _∙_}
+use mathlib.Core.Path.{_≡_, sym, ap, subst, _∙_}
 use borrow.Author.Tests.{lt-ltb, le-ltb, eq-eqb, ne-eqb, eqb-true}
 use lib.Dec.{eqb, ltb}
 use lib.ListN.{length, getD, take}
 use lib.Seq.{getD-take}
 use native.Mathlib.Decide.{ℕ-discrete, decLt}
 use native.Mathlib.Omega.{arith}
-use Rattle.answer.specs.Laws.{first-alike, fact}
+use Rattle.answer.specs.Laws.{first-alike}
 use Rattle.answer.specs.Table.{First, Clears}
 use Rattle.confirm.specs.Judged.{StatesOf}
-use Rattle.layout.specs.Layout.{sizes, runsIn, endU, endV, stateOf, Fields}
+use Rattle.layout.specs.Layout.{sizes, runsIn, endU, endV, Fields}
 use Rattle.layout.specs.Laws.{whole-runs, counts}
 use Rattle.layout.specs.Rows.{soundRows}
 use Rattle.pieces.specs.Holds as holds
-use Rattle.pieces.specs.Holds.{at, Holds, Ended, labelsOf, Fits, fits-ended}
+use Rattle.pieces.specs.Holds.{at, Holds, labelsOf, Fits}
 use Rattle.scan.specs.Scans.{Flags}
 use Rattle.wirings.specs.Chosen.{chosen, flagged, chosen-used, used-chosen}
 use Rattle.wirings.specs.Counted.{stocked, fed-stocked, stocked-fed}
 use Rattle.wirings.specs.Joined.{joined-mono, fed-mono}
-use Rattle.wirings.specs.Labels.{In, labels, label, label-le, joined-same, same-joined}
-use Rattle.wirings.specs.Limits.{fixedRuns, unstruckRuns, least, most, unstruck-in, in-unstruck}
+use Rattle.wirings.specs.Labels.{labels, label, label-le, joined-same, same-joined}
+use Rattle.wirings.specs.Limits.{fixedRuns, unstruckRuns, unstruck-in, in-unstruck}
 use Rattle.wirings.specs.OfForm.{orderOf, order-sound, chosen-same}
 use Rattle.wirings.specs.Pieces.{pieces, stock, fedPieces, pieces-same, stock-same, fed-same}
 use Rattle.wirings.specs.Theorem1.{Opens, Reached}

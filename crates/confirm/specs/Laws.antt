@@ -1,5 +1,5 @@
 -- One turn of each loop of the confirmation.
-use Prim.Native.Nat.{ℕ, zero, suc, _+_, _≤_, _<_}
+use Prim.Native.Nat.{ℕ, zero, suc, _+_, _<_}
 use mathlib.Core.List.{List}
 use mathlib.Core.Path.{_≡_, refl, sym, subst, subst₂, _∙_}
 use lib.ListN.{length, getD, set, replicate}
@@ -9,7 +9,7 @@ use native.Mathlib.Numerals.{add-one}
 use native.Mathlib.Omega.{arith}
 use Rattle.confirm.specs.Judged.{StatesOf}
 use Rattle.layout.specs.Layout.{sizes, stateOf}
-use Rattle.wirings.specs.Wiring.{Counts, none, one, skip}
+use Rattle.wirings.specs.Wiring.{Counts, one, skip}
 
 pub blank : (n r : ℕ) → _≡_ {A = ℕ} (getD (replicate n 0) r 0) 0
 blank zero r = refl

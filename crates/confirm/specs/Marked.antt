@@ -1,20 +1,14 @@
 -- The confirmed state of a run by numbers: its labels by the fixed runs, their supplies, its kind of bridge, and how tight line four is.
 use Prim.Native.Nat.{ℕ, min, _≤_, _<_}
 use mathlib.Core.Bool.{Bool, true, false}
-use mathlib.Core.List.{List}
-use mathlib.Core.Logic.{_⊎_, inl, inr, ⊎-elim}
-use mathlib.Core.Path.{_≡_, refl, sym, ap, _∙_}
-use lib.ListN.{getD}
+use mathlib.Core.Path.{_≡_, refl, sym, _∙_}
 use native.Mathlib.Decide.{decLt}
 use native.Mathlib.Omega.{arith}
-use Rattle.layout.specs.Layout.{Fields}
-use Rattle.wirings.specs.Chosen.{flagged, true-not-false}
-use Rattle.wirings.specs.Confirmed.{Always, Some, Mark, kept, struck, pinned, stays, Confirmed}
+use Rattle.wirings.specs.Confirmed.{Always, Some, Mark, kept, struck, pinned, stays}
 use Rattle.wirings.specs.Counted.{Sound, stocked}
 use Rattle.wirings.specs.Labels.{label}
 use Rattle.wirings.specs.Limits.{fixedRuns, least, most}
 use Rattle.wirings.specs.Marks.{Bridge, bypassed, supplied, bare, never-joined, never-full, some-free, some-spare, free-none, pinned-bare, pinned-fed, free-fed}
-use Rattle.wirings.specs.OfForm.{orderOf}
 use Rattle.wirings.specs.Theorem1.{Meets}
 use Rattle.wirings.specs.Wiring.{Order}
 

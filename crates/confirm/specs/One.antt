@@ -1,12 +1,11 @@
 -- The verdict on a form's fields is one; where it is sound, so are the marks and the wiring of the form's runs, the segment numbers of its places, line
 -- four and the counts.
-use Prim.Native.Nat.{ℕ, _<_}
+use Prim.Native.Nat.{ℕ}
 use mathlib.Core.List.{List}
-use mathlib.Core.Path.{_≡_, refl, sym, _∙_}
+use mathlib.Core.Path.{_≡_, sym, _∙_}
 use Rattle.answer.specs.Laws.{settled-one}
 use Rattle.answer.specs.Table.{Clears}
 use Rattle.confirm.specs.Concluded.{Confirms}
-use Rattle.layout.specs.Checked.{told}
 use Rattle.layout.specs.declared.Checked.{Checked}
 use Rattle.layout.specs.declared.Checked.the-variants.{Sound}
 use Rattle.layout.specs.Layout.{sizes, Fields}

@@ -1,8 +1,7 @@
 -- A form that has passed numbers 9 to 11, with all that its marks are worked out from.
-use Prim.Native.Nat.{ℕ, min, max, _+_, _≤_, _<_}
-use mathlib.Core.Bool.{Bool, true, false}
+use Prim.Native.Nat.{ℕ, min, _+_, _≤_, _<_}
 use mathlib.Core.List.{List}
-use mathlib.Core.Path.{_≡_, refl, sym, ap, subst, subst₃, _∙_}
+use mathlib.Core.Path.{_≡_, sym, ap, subst, subst₃, _∙_}
 use borrow.Author.Tests.{leb-true, leb-false}
 use lib.Dec.{leb}
 use lib.ListN.{length, getD, set}

@@ -1,6 +1,6 @@
 -- The confirmed form, as it is written: the image up to line four, new states in its runs, and line four.
-use Prim.Native.Nat.{ℕ, zero, suc, _+_, _-_, _*_, _/_, _≤_, _<_}
-use mathlib.Core.List.{List, [], _∷_, _++_, append-assoc}
+use Prim.Native.Nat.{ℕ, _+_, _-_, _*_, _/_}
+use mathlib.Core.List.{List, [], _++_, append-assoc}
 use mathlib.Core.Path.{_≡_, refl, sym, ap, ap₂, _∙_}
 use lib.ListN.{length, take, drop, length-append}
 use lib.Seq.{take-at, drop-at}
@@ -9,7 +9,7 @@ use Rattle.answer.specs.Laws.{fact}
 use Rattle.filter.specs.Filtered.{restated, confirmedFields}
 use Rattle.filter.specs.Laws.{length-restated}
 use Rattle.layout.specs.Image.{Bytes, head, up-to-runs, up-to-line, over-more, image-back}
-use Rattle.layout.specs.Layout.{sizes, word, runsAt, lineAt, runsIn, Fields, contents, lineFour, image, over, overAt}
+use Rattle.layout.specs.Layout.{sizes, word, runsAt, lineAt, runsIn, contents, lineFour, image, over, overAt}
 use Rattle.layout.specs.Laws.{places-length, runs-count, fields-sound, whole-runs}
 use Rattle.layout.specs.Rows.{Laid, fieldsOf}
 use Rattle.reader.specs.Laws.{Valid}

@@ -1,7 +1,6 @@
 -- Demand 2: a form with buffers long enough is confirmed exactly if a lawful wiring exists; in the form that is written then, a possible run is struck
 -- exactly if no lawful wiring uses it and fixed exactly if all do, and line four runs from the smallest to the largest count of a lawful wiring.
 use Prim.Native.Nat.{ℕ, _<_}
-use mathlib.Core.Bool.{true, false}
 use mathlib.Core.List.{List}
 use mathlib.Core.Logic.{_↔_}
 use mathlib.Core.Path.{_≡_, sym, ap, subst, _∙_}

@@ -1,7 +1,7 @@
 -- What the filter promises: its reply and every byte of the three lent buffers, by the lawful wirings of the form.
 use Prim.Native.Nat.{ℕ, zero, suc, _+_, _*_, _≤_, _<_}
 use mathlib.Core.Bool.{Bool, true, false}
-use mathlib.Core.List.{List, [], _∷_, _++_}
+use mathlib.Core.List.{List, _∷_, _++_}
 use mathlib.Core.Path.{_≡_}
 use lib.ListN.{length, getD, set}
 use Rattle.answer.specs.declared.Answer.{Answer}

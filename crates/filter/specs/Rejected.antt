@@ -1,6 +1,5 @@
 -- Filters that the contract rejects: one that refuses each form, one with a constant reply, one that copies the form.
-use Prim.Native.Nat.{ℕ, zero, suc, _+_, _*_, _≤_, _<_}
-use mathlib.Core.Bool.{Bool, true}
+use Prim.Native.Nat.{ℕ, zero, suc, _≤_, _<_}
 use mathlib.Core.List.{List, [], _∷_}
 use mathlib.Core.Path.{_≡_, refl, sym, ap, _∙_}
 use lib.ListN.{length, getD}
@@ -13,9 +12,8 @@ use Rattle.filter.specs.Demand2.{lawful-confirmed}
 use Rattle.filter.specs.Filtered.{Lent, Left, Room, restated, Accepted, Leaves}
 use Rattle.layout.specs.Layout.{sizes, over}
 use Rattle.layout.specs.Laws.{fields-sound}
-use Rattle.layout.specs.Rows.{Place, Good, fieldsOf, readRows, soundRows}
+use Rattle.layout.specs.Rows.{Place, Good, fieldsOf, readRows}
 use Rattle.wirings.specs.Chosen.{chosen}
-use Rattle.wirings.specs.Confirmed.{Confirmed}
 use Rattle.wirings.specs.Counted.{Sound}
 use Rattle.wirings.specs.Labels.{moved, labels}
 use Rattle.wirings.specs.OfForm.{orderOf, order-sound}
@@ -25,7 +23,7 @@ use Rattle.wirings.specs.Solved.{allBelow, firstBad, countOf, judged, markOf, s
 use Rattle.wirings.specs.Tally.{when, tally}
 use Rattle.wirings.specs.Theorem1.{member}
 use Rattle.wirings.specs.Wiring.{Order, Wiring, Lawful}
-use Rattle.wirings.specs.Worked.{Confirmation, RightFor, confirmedBy, outcomeBy, outcome-right}
+use Rattle.wirings.specs.Worked.{Confirmation, RightFor, confirmedBy, outcome-right}
 
 -- ---- refusing each form: not one that has a lawful wiring
 pub not-refusing : (s : List ℕ) (lent : Lent) (left : Left) → Clears (readRows sizes s) → Room (fieldsOf sizes s) lent → (w : Wiring) → Lawful (orderOf (fieldsOf sizes s)) w

@@ -1,16 +1,14 @@
 -- The ways out of the filter, each as an outcome of the whole table.
-use Prim.Native.Nat.{ℕ, _+_, _*_, _-_, _≤_, _<_}
-use mathlib.Core.Bool.{Bool, true, false}
-use mathlib.Core.List.{List, []}
+use Prim.Native.Nat.{ℕ, _-_, _≤_}
+use mathlib.Core.List.{List}
 use mathlib.Core.Path.{_≡_, refl, sym, ap, subst, _∙_}
 use borrow.Author.Tests.{lt-ltb, le-ltb}
 use lib.Dec.{ltb}
-use lib.ListN.{length, getD}
+use lib.ListN.{length}
 use native.Mathlib.Decide.{decLt}
 use native.Mathlib.Omega.{arith}
-use Rattle.answer.specs.declared.Answer.{Answer}
 use Rattle.answer.specs.declared.Range.{Range}
-use Rattle.answer.specs.Laws.{not-refused, as-refused, refuses, passes, ends, onward, fact}
+use Rattle.answer.specs.Laws.{not-refused, as-refused, refuses, passes, ends, onward}
 use Rattle.answer.specs.Reply.{Reply, accepted, refused, Counts}
 use Rattle.answer.specs.Table.{Clears}
 use Rattle.confirm.specs.Concluded.{Confirms}
@@ -21,13 +19,13 @@ use Rattle.layout.specs.Checked.{told as checked}
 use Rattle.layout.specs.declared.Checked.{Checked}
 use Rattle.layout.specs.declared.Checked.the-variants.{Sound, Unsound}
 use Rattle.layout.specs.Image.{Bytes}
-use Rattle.layout.specs.Layout.{sizes, part, word, runsAt, lineAt, lengthOf, runsIn, Fields, lengthFor, image, over}
+use Rattle.layout.specs.Layout.{sizes, lengthOf, Fields, image, over}
 use Rattle.layout.specs.Laws.{taken, taken-is, fields-sound}
-use Rattle.layout.specs.Rows.{Laid, fieldsOf, soundRows}
+use Rattle.layout.specs.Rows.{fieldsOf, soundRows}
 use Rattle.pieces.specs.Holds.{at}
 use Rattle.reader.specs.declared.Reading.{Reading}
 use Rattle.reader.specs.declared.Reading.the-variants.{Form, Refused}
-use Rattle.reader.specs.Laws.{Valid, valid}
+use Rattle.reader.specs.Laws.{Valid}
 use Rattle.reader.specs.Reading.{told, Reads}
 use Rattle.wirings.specs.Chosen.{flagged}
 use Rattle.wirings.specs.OfForm.{orderOf}

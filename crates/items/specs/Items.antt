@@ -7,7 +7,6 @@ use Rattle.text.specs.declared.Decimal.{Decimal}
 use Rattle.text.specs.declared.Decimal.the-variants.{Is as Number, Above as TooLarge, Not as NoDecimal}
 use Rattle.text.specs.Numbers.{Says}
 use Rattle.text.specs.Words.{Word}
-use Rattle.items.specs.declared.Fault.{Fault}
 use Rattle.items.specs.declared.Fault.the-variants.{NotAnItem, NoNumber, NotDigits, Above, NoState, NotAState, OneTooMany}
 use Rattle.items.specs.declared.Field.{Field}
 use Rattle.items.specs.declared.Field.the-variants.{Is as Value, Not as NoValue}

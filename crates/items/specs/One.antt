@@ -11,7 +11,7 @@ use Rattle.items.specs.declared.Pair.{Pair}
 use Rattle.items.specs.declared.Pair.the-variants.{Are, Not as NoPair}
 use Rattle.items.specs.declared.State.{State}
 use Rattle.items.specs.declared.State.the-variants.{Is as Known, Not as NoState′}
-use Rattle.items.specs.Items.{Only, If, so, otherwise, With, NumberIn, StateIn, PairWith, PairFrom, PairIn, Whole, RunWith, RunFrom, RunIn, CountFrom, CountIn, ItemIn, Reads}
+use Rattle.items.specs.Items.{Only, If, so, otherwise, With, NumberIn, StateIn, PairWith, PairFrom, PairIn, Whole, RunWith, RunFrom, CountFrom, ItemIn, Reads}
 
 -- K allows one answer at most
 abbrev pub One : {R : Type 0} → (R → Type 0) → Type 0

@@ -1,5 +1,5 @@
 -- What is gathered stays within the arrays that are lent for it.
-use Prim.Native.Nat.{ℕ, _≤_}
+use Prim.Native.Nat.{_≤_}
 use Rattle.items.specs.declared.fields.Gathered.{Gathered}
 use Rattle.items.specs.declared.fields.Gathered.the-variants.{Fields, Wrong as Faulty, NoCount}
 use Rattle.items.specs.declared.fields.SoFar.{SoFar}

@@ -1,5 +1,4 @@
 -- What the check of a form's fields answers, in the paper's terms.
-use Prim.Native.Nat.{ℕ}
 use mathlib.Core.Path.{_≡_}
 use Rattle.answer.specs.Reply.{Reply, accepted, refused}
 use Rattle.answer.specs.Table.{Settled}

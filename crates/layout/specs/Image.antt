@@ -1,5 +1,5 @@
 -- The image of sound fields, part by part: how long it is, and that its parts are the fields.
-use Prim.Native.Nat.{ℕ, zero, suc, _+_, _-_, _*_, _%_, _/_, _≤_, _<_}
+use Prim.Native.Nat.{ℕ, suc, _+_, _-_, _*_, _%_, _/_, _≤_, _<_}
 use mathlib.Core.List.{List, [], _∷_, _++_, append-assoc, append-nil}
 use mathlib.Core.Path.{_≡_, refl, sym, ap, ap₂, subst₂, subst₃, _∙_}
 use lib.ListN.{length, getD, take, drop, length-append, take-append-drop, length-drop, drop-of-length-le}
@@ -9,7 +9,7 @@ use native.Mathlib.Numerals.{add-one}
 use native.Mathlib.Omega.{arith}
 use Rattle.answer.specs.Laws.{clear, fact}
 use Rattle.answer.specs.Table.{Clears}
-use Rattle.layout.specs.Layout.{Sizes, sizes, word, bytes, part, runsAt, lineAt, runsIn, Fields, lengthFor, contents, lineFour, image, over, overAt}
+use Rattle.layout.specs.Layout.{sizes, word, bytes, part, runsAt, lineAt, runsIn, Fields, lengthFor, contents, lineFour, image, over, overAt}
 use Rattle.layout.specs.Laws.{places-length, runs-count, whole-runs}
 use Rattle.layout.specs.Rows.{Numbers, Listed, Laid, fieldRows, soundRows, fieldsOf, readRows}
 

@@ -1,6 +1,6 @@
 -- Laws of the layout: what the sections of an image are, and how their checks become the reader's.
 use Prim.Native.Nat.{ℕ, zero, suc, _+_, _-_, _*_, _/_, _≤_, _<_}
-use mathlib.Core.List.{List, [], _∷_}
+use mathlib.Core.List.{List, _∷_}
 use mathlib.Core.Path.{_≡_, refl, sym, ap, ap₂, subst₂, _∙_}
 use lib.ListN.{length, getD, length-take, length-drop}
 use native.Mathlib.Nat.{add-assoc, add-comm, add-mul-div-left, div-eq-of-lt, lt-div-mul-add, zero-add}
@@ -11,7 +11,7 @@ use Rattle.answer.specs.Laws.{not-refused, settled-one, passes, onward, after, 
 use Rattle.layout.specs.Checked.{told, Checks}
 use Rattle.layout.specs.declared.Checked.{Checked}
 use Rattle.layout.specs.declared.Checked.the-variants.{Sound, Unsound}
-use Rattle.layout.specs.Layout.{Sizes, word, part, runsAt, lineAt, lengthOf, runsIn, Fields}
+use Rattle.layout.specs.Layout.{Sizes, word, part, runsAt, lineAt, runsIn, Fields}
 use Rattle.layout.specs.Rows.{Listed, Numbers, Laid, Good, fieldRows, soundRows, fieldsOf, Heading, headingOf, readRows}
 
 -- where all of m runs are good, their records are all there

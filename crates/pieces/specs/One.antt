@@ -1,8 +1,7 @@
 -- An array that holds a function is one array: so the labels, the supplied labels and the first closing run are settled by their contracts.
-use Prim.Native.Nat.{ℕ, _<_}
+use Prim.Native.Nat.{ℕ}
 use mathlib.Core.List.{List}
 use mathlib.Core.Path.{_≡_, sym, _∙_}
-use lib.ListN.{length}
 use lib.Seq.{ext-getD}
 use native.Mathlib.Omega.{arith}
 use Rattle.pieces.specs.Holds.{Holds}

@@ -1,16 +1,16 @@
 -- What a reading shows of its image, whichever way the reader came to it; and that it is the only one.
-use Prim.Native.Nat.{ℕ, _+_, _*_, _≤_}
+use Prim.Native.Nat.{ℕ}
 use mathlib.Core.List.{List, []}
 use mathlib.Core.Path.{_≡_, refl, sym, ap, _∙_}
 use lib.ListN.{length}
 use native.Mathlib.Omega.{arith}
 use Rattle.answer.specs.Laws.{not-refused, accepted-one, settled-one, onward, cleared, all-clear, fact}
-use Rattle.answer.specs.Reply.{Reply, accepted, refused}
+use Rattle.answer.specs.Reply.{accepted}
 use Rattle.answer.specs.Table.{Clears}
-use Rattle.layout.specs.Layout.{sizes, word, lineAt, lengthOf, Fields}
+use Rattle.layout.specs.Layout.{sizes, word, lengthOf, Fields}
 use Rattle.layout.specs.Laws.{taken, taken-is}
-use Rattle.layout.specs.Rows.{Numbers, Laid, Heading, headingOf, fieldsOf, readRows}
-use Rattle.reader.specs.Reading.{told, Reply-to, Reads, Section}
+use Rattle.layout.specs.Rows.{Numbers, Heading, headingOf, fieldsOf, readRows}
+use Rattle.reader.specs.Reading.{told, Reads, Section}
 use Rattle.reader.specs.declared.Reading.{Reading}
 use Rattle.reader.specs.declared.Reading.the-variants.{Form, Refused}
 use Rattle.answer.specs.declared.Range.{Range}

@@ -1,26 +1,26 @@
 -- 'Reading and writing forms undo each other', of every reply that the contracts of reader and writer allow.
 use Prim.Native.Nat.{ℕ, _≤_}
-use mathlib.Core.List.{List, [], _∷_, _++_}
+use mathlib.Core.List.{List}
 use mathlib.Core.Path.{_≡_, refl, sym, ap, ap₂, subst, _∙_}
 use lib.ListN.{length, take, drop}
 use lib.Seq.{take-append-seam}
 use native.Mathlib.Omega.{arith}
 use Rattle.answer.specs.declared.Range.{Range}
 use Rattle.answer.specs.Laws.{not-refused, accepted-one, cleared, all-clear, clear, fact, clears-join, clears-front}
-use Rattle.answer.specs.Reply.{Reply, accepted, refused}
+use Rattle.answer.specs.Reply.{accepted}
 use Rattle.answer.specs.Table.{Clears}
 use Rattle.layout.specs.Image.{Bytes, fields-back, read-back, n-is, m-is, image-back}
 use Rattle.layout.specs.Layout.{sizes, word, lengthOf, runsIn, Fields, image, over}
 use Rattle.layout.specs.Laws.{places-length, runs-count, fields-sound}
 use Rattle.layout.specs.Rows.{Laid, soundRows, roomRow, writeRows, fieldsOf, Heading, headingOf, readRows}
 use Rattle.reader.specs.declared.Reading.{Reading}
-use Rattle.reader.specs.declared.Reading.the-variants.{Form, Refused}
+use Rattle.reader.specs.declared.Reading.the-variants.{Form}
 use Rattle.reader.specs.Laws.{Valid, valid, reads-one, section-one}
 use Rattle.reader.specs.Reading.{Reads, Places, Runs}
 use Rattle.writer.specs.declared.Writing.{Writing}
 use Rattle.writer.specs.declared.Writing.the-variants.{Written}
 use Rattle.writer.specs.Laws.{writes-one}
-use Rattle.writer.specs.Writing.{told, Left, Writes}
+use Rattle.writer.specs.Writing.{Left, Writes}
 
 -- Reading a written form gives the same places, runs and line four.
 pub read-written : (f : Fields) (before after : List ℕ) (size : ℕ) → Writes f before (Written size) after

@@ -1,17 +1,16 @@
 -- Going over a line and over digits, a byte at a time; and that each contract settles what comes out.
-use Prim.Native.Nat.{ℕ, zero, suc, _+_, _-_, _*_, _≤_, _<_, min}
+use Prim.Native.Nat.{ℕ, _+_, _-_, _*_, _≤_, _<_, min}
 use mathlib.Core.Bool.{Bool, true, false, not, Bool·beq}
 use mathlib.Core.List.{List}
-use mathlib.Core.Logic.{_⊎_, ⊎-elim}
-use mathlib.Core.Path.{_≡_, refl, sym, ap, subst, _∙_}
+use mathlib.Core.Path.{_≡_, refl, sym, subst}
 use lib.Dec.{T}
 use lib.ListN.{length, getD, take, drop}
 use borrow.Author.Count.{below-more}
 use native.Mathlib.Nat.{le-refl}
 use native.Mathlib.Numerals.{add-one}
 use native.Mathlib.Omega.{arith}
-use Rattle.text.specs.Numbers.{Digits, said, Says}
-use Rattle.text.specs.Words.{isBlank, Reaches, Starts, first, next, Word}
+use Rattle.text.specs.Numbers.{Digits, said}
+use Rattle.text.specs.Words.{isBlank, Reaches, Starts, next, Word}
 
 -- ---- a test whether two flags differ
 pub unlike : (a b : Bool) → not (Bool·beq a b) ≡ true → a ≡ b → ⊥

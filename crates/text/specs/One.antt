@@ -1,14 +1,14 @@
 -- Any two words, and any two numbers, that the contracts allow are equal.
-use Prim.Native.Nat.{ℕ, _-_, _≤_, _<_}
+use Prim.Native.Nat.{ℕ, _-_, _<_}
 use mathlib.Core.Bool.{Bool}
 use mathlib.Core.List.{List}
-use mathlib.Core.Path.{_≡_, refl, sym, ap, ap₂, subst, _∙_}
-use lib.ListN.{length, take, drop}
+use mathlib.Core.Path.{_≡_, refl, sym, ap, ap₂, _∙_}
+use lib.ListN.{take, drop}
 use native.Mathlib.Decide.{decLt}
 use native.Mathlib.Omega.{arith}
 use Rattle.text.specs.declared.Decimal.{Decimal}
 use Rattle.text.specs.declared.Decimal.the-variants.{Is, Above, Not}
-use Rattle.text.specs.Numbers.{Digits, said, Says}
+use Rattle.text.specs.Numbers.{Says}
 use Rattle.text.specs.Words.{Reaches, Starts, first, next, Word}
 
 module _ {over : Bool} {s : List ℕ} {from a b : ℕ} (p : Reaches over s from a) (q : Reaches over s from b) where

@@ -1,7 +1,7 @@
 -- Two orders with the same places, supplies and run ends: what is said of a wiring on one holds on the other.
 use Prim.Native.Nat.{ℕ, _≤_, _<_}
 use mathlib.Core.Bool.{true}
-use mathlib.Core.Path.{_≡_, refl, sym, subst, _∙_}
+use mathlib.Core.Path.{_≡_, sym, subst, _∙_}
 use Rattle.wirings.specs.Limits.{counts-same}
 use Rattle.wirings.specs.Wiring.{Order, Wiring, Used, Leads, along, back, Joined, here, on, Smallest, Counts, Segments, Loop, Fed, Lawful}
 

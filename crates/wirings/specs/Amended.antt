@@ -1,12 +1,12 @@
 -- A run pinned or struck on the form: its lawful wirings are those that use the run, or do not.
 use Prim.Native.Nat.{ℕ, _≤_, _<_}
-use mathlib.Core.Bool.{Bool, true, false}
-use mathlib.Core.Path.{_≡_, refl, sym, ap, subst, _∙_}
+use mathlib.Core.Bool.{true}
+use mathlib.Core.Path.{_≡_, refl, sym, ap, _∙_}
 use native.Mathlib.Decide.{ℕ-discrete}
 use native.Mathlib.Omega.{arith}
 use Rattle.wirings.specs.Alike.{Alike, alike-sym, lawful-as}
 use Rattle.wirings.specs.Counted.{Sound}
-use Rattle.wirings.specs.Wiring.{Order, Wiring, Used, Lawful}
+use Rattle.wirings.specs.Wiring.{Order, Wiring, Lawful}
 
 -- f with another value at e
 unfoldable pub put : ℕ → ℕ → (ℕ → ℕ) → ℕ → ℕ

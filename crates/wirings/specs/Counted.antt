@@ -1,16 +1,14 @@
 -- The pieces of a list of runs: how they are counted, and what one more run or more runs do.
-use Prim.Native.Nat.{ℕ, zero, suc, min, max, _+_, _≤_, _<_}
+use Prim.Native.Nat.{ℕ, min, _+_, _≤_, _<_}
 use mathlib.Core.List.{List, [], _∷_, _++_}
 use mathlib.Core.Logic.{_⊎_, inl, inr, ⊎-elim}
-use mathlib.Core.Path.{_≡_, refl, sym, ap, subst, _∙_}
-use lib.ListN.{length}
+use mathlib.Core.Path.{_≡_, refl, sym, ap, _∙_}
 use native.Mathlib.Decide.{ℕ-discrete, decLt}
 use native.Mathlib.Omega.{arith}
-use Rattle.wirings.specs.Joined.{joined-trans, joined-sym, joined-mono}
-use Rattle.wirings.specs.Labels.{In, moved, Moved, went, stayed, moves, labels, label, label-le, label-root, joined-label, joined-same, same-joined, label-ext}
-use Rattle.wirings.specs.Pieces.{pieces, stock, fedPieces, pieces-same, stock-same, fed-same, pieces-join, fed-join}
-use Rattle.wirings.specs.Tally.{when, when-is, when-not, When, same, apart, whens, tally, tally-same, tally-le, tally-at, tally-some}
-use Rattle.wirings.specs.Wiring.{Order, Leads, Joined, Fed}
+use Rattle.wirings.specs.Labels.{In, Moved, went, stayed, moves, labels, label, label-le, label-root, joined-same, same-joined, label-ext}
+use Rattle.wirings.specs.Pieces.{pieces, stock, fedPieces, pieces-same, fed-same, pieces-join, fed-join}
+use Rattle.wirings.specs.Tally.{when, when-is, when-not, When, same, apart, whens, tally-same, tally-at, tally-some}
+use Rattle.wirings.specs.Wiring.{Order, Fed}
 
 -- the order of a form without a fault: a run leads from a smaller place to a larger one, no two runs have one pair of ends, a supply is 0 or 1, a state at most 2
 pub record Sound (o : Order) : Type 0 where

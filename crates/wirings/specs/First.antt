@@ -1,21 +1,21 @@
 -- The scan in listed order for the greatest count gives the first wiring.
-use Prim.Native.Nat.{ℕ, zero, suc, min, max, _+_, _-_, _≤_, _<_}
+use Prim.Native.Nat.{ℕ, min, max, _-_, _≤_, _<_}
 use mathlib.Core.Bool.{Bool, true, false}
-use mathlib.Core.List.{List, [], _∷_}
+use mathlib.Core.List.{_∷_}
 use mathlib.Core.Logic.{_⊎_, inl, inr, ⊎-elim}
 use mathlib.Core.Path.{_≡_, refl, sym, ap, subst, _∙_}
 use native.Mathlib.Decide.{ℕ-discrete}
 use native.Mathlib.Omega.{arith}
 use Rattle.wirings.specs.Chosen.{true-not-false}
 use Rattle.wirings.specs.Confirmed.{Lowest, Highest, FirstWiring, SegmentNumber}
-use Rattle.wirings.specs.Counted.{Sound, Runs, comps, feds, feds-one, feds-mono, all-fed}
+use Rattle.wirings.specs.Counted.{Sound, Runs, feds-one, feds-mono, all-fed}
 use Rattle.wirings.specs.Joined.{joined-mono}
 use Rattle.wirings.specs.Labels.{In, label, label-least, joined-label, same-joined}
-use Rattle.wirings.specs.Limits.{fixedRuns, unstruckRuns, least, most, in-fixed, in-unstruck, usedRuns, in-used, used-in, segments-are, lawful-more, lawful-fed, lawful-least, lawful-most}
+use Rattle.wirings.specs.Limits.{least, most, in-fixed, in-unstruck, usedRuns, in-used, used-in, segments-are, lawful-more, lawful-fed, lawful-least, lawful-most}
 use Rattle.wirings.specs.Loops.{closing-loops}
 use Rattle.wirings.specs.Scan.{Scan, Verdict, closed, full, free, spends, Goes, pass, look, begin, Kept, kept}
 use Rattle.wirings.specs.Theorem1.{Meets, Names, Ends, start, scan-ends, listed, forest, of-count, least-most, to-used, from-used, ends-lawful, ends-segments}
-use Rattle.wirings.specs.Wiring.{Order, Wiring, Used, Joined, Segments, Lawful}
+use Rattle.wirings.specs.Wiring.{Order, Wiring, Used, Segments, Lawful}
 
 -- ---- what a scan made of run i, and that it stays
 verdict-more : {o : Order} {r : ℕ} {s t : Scan} → Verdict o r s t → (j : ℕ) → In (s .taken) j → In (t .taken) j

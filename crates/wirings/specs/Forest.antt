@@ -2,7 +2,7 @@
 use Prim.Native.Nat.{ℕ, zero, suc, _+_, _≤_, _<_}
 use mathlib.Core.List.{List, [], _∷_}
 use mathlib.Core.Logic.{_⊎_, inl, inr, ⊎-elim}
-use mathlib.Core.Path.{_≡_, refl, sym, ap, subst, _∙_}
+use mathlib.Core.Path.{_≡_, refl, sym, subst, _∙_}
 use lib.ListN.{length}
 use native.Mathlib.Decide.{ℕ-discrete}
 use native.Mathlib.Omega.{arith}
@@ -11,7 +11,7 @@ use Rattle.wirings.specs.Joined.{joined-mono}
 use Rattle.wirings.specs.Labels.{In, labels, label, joined-same}
 use Rattle.wirings.specs.Loops.{loop-closes}
 use Rattle.wirings.specs.Pieces.{pieces, pieces-same}
-use Rattle.wirings.specs.Tally.{when, when-is, tally, tally-same}
+use Rattle.wirings.specs.Tally.{when, when-is, tally}
 use Rattle.wirings.specs.Wiring.{Order, Joined, Loop}
 
 abbrev pub Forest : Order → List ℕ → Type 0

@@ -1,5 +1,5 @@
 -- Labels: each place has the smallest place that runs of a list join it with.
-use Prim.Native.Nat.{ℕ, min, max, _≤_, _<_}
+use Prim.Native.Nat.{ℕ, min, max, _≤_}
 use mathlib.Core.List.{List, [], _∷_}
 use mathlib.Core.Logic.{_⊎_, inl, inr}
 use mathlib.Core.Path.{_≡_, refl, sym, ap, subst, subst₂, _∙_}
@@ -7,7 +7,7 @@ use native.Mathlib.Decide.{ℕ-discrete, decLt}
 use native.Mathlib.Nat.{le-antisymm}
 use native.Mathlib.Omega.{arith}
 use Rattle.wirings.specs.Joined.{joined-trans, joined-sym, joined-mono}
-use Rattle.wirings.specs.Wiring.{Order, Leads, along, back, Joined, here, on, Smallest}
+use Rattle.wirings.specs.Wiring.{Order, along, back, Joined, here, on, Smallest}
 
 -- r is in a list of runs
 abbrev pub In : List ℕ → ℕ → Type 0

@@ -1,20 +1,18 @@
 -- MIN and MAX of the paper, and what a lawful wiring has to do with them.
-use Prim.Native.Nat.{ℕ, zero, suc, min, max, _+_, _-_, _≤_, _<_}
-use mathlib.Core.Bool.{Bool, true, false}
-use mathlib.Core.List.{List, [], _∷_}
-use mathlib.Core.Logic.{_⊎_, inl, inr, ⊎-elim}
-use mathlib.Core.Path.{_≡_, refl, sym, ap, subst, _∙_}
+use Prim.Native.Nat.{ℕ, zero, suc, min, _+_, _-_, _≤_, _<_}
+use mathlib.Core.List.{List}
+use mathlib.Core.Path.{_≡_, refl, ap, subst}
 use borrow.Author.Tests.{eqb-true, eq-eqb, ltb-true, lt-ltb}
 use lib.Dec.{eqb, ltb}
-use native.Mathlib.Decide.{ℕ-discrete, decLt}
+use native.Mathlib.Decide.{decLt}
 use native.Mathlib.Omega.{arith}
 use Rattle.wirings.specs.Chosen.{chosen, chosen-used, used-chosen}
-use Rattle.wirings.specs.Counted.{Sound, Runs, comps, stocked, feds, comps-mono, feds-mono, all-fed, fed-stocked, stocked-fed}
+use Rattle.wirings.specs.Counted.{Sound, comps, stocked, feds, comps-mono, feds-mono, all-fed, fed-stocked, stocked-fed}
 use Rattle.wirings.specs.Joined.{joined-mono, fed-mono}
 use Rattle.wirings.specs.Labels.{In, label, root-smallest, smallest-root}
 use Rattle.wirings.specs.Pieces.{pieces, stock, fedPieces}
 use Rattle.wirings.specs.Tally.{when, When, same, apart, whens, tally}
-use Rattle.wirings.specs.Wiring.{Order, Wiring, Used, Joined, Smallest, Counts, none, one, skip, Segments, Loop, Fed, Lawful}
+use Rattle.wirings.specs.Wiring.{Order, Wiring, Used, Smallest, Counts, none, one, skip, Segments, Fed, Lawful}
 
 -- ---- the fixed runs, and the unstruck ones
 abbrev pub fixedRuns : Order → List ℕ

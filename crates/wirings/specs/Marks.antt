@@ -1,23 +1,23 @@
 -- When a possible run is struck or pinned, by theorem 1 for the form with the run fixed, and with it struck.
 use Prim.Native.Nat.{ℕ, min, _+_, _≤_, _<_}
 use mathlib.Core.Bool.{Bool, true, false}
-use mathlib.Core.List.{List, [], _∷_}
-use mathlib.Core.Logic.{_⊎_, inl, inr, ⊎-elim}
+use mathlib.Core.List.{List, _∷_}
+use mathlib.Core.Logic.{inl, inr}
 use mathlib.Core.Path.{_≡_, refl, sym, ap, subst, _∙_}
-use native.Mathlib.Decide.{ℕ-discrete, decLt}
+use native.Mathlib.Decide.{ℕ-discrete}
 use native.Mathlib.Omega.{arith}
 use Rattle.wirings.specs.Alike.{alike-sym, joined-as, fed-as}
-use Rattle.wirings.specs.Amended.{marked, At, same, other, at, marked-sound, marked-alike, pin-lawful, pinned-lawful, strike-lawful, struck-lawful}
+use Rattle.wirings.specs.Amended.{marked, At, same, other, at, marked-sound, marked-alike, pinned-lawful, struck-lawful}
 use Rattle.wirings.specs.Chosen.{true-not-false}
 use Rattle.wirings.specs.Confirmed.{Never, Always, Some}
-use Rattle.wirings.specs.Counted.{Sound, Runs, comps, stocked, feds, comps-ext, feds-ext, comps-one, feds-one, comps-mono, feds-mono, same-labels, fed-stocked, stocked-fed, all-fed}
-use Rattle.wirings.specs.Forest.{Forest, forest-open}
-use Rattle.wirings.specs.Joined.{joined-mono, joined-into, joined-sym, joined-trans, fed-mono}
+use Rattle.wirings.specs.Counted.{Sound, Runs, comps, stocked, feds, comps-ext, feds-ext, comps-one, feds-one, comps-mono, feds-mono, same-labels, all-fed}
+use Rattle.wirings.specs.Forest.{forest-open}
+use Rattle.wirings.specs.Joined.{joined-mono, joined-into, joined-trans, fed-mono}
 use Rattle.wirings.specs.Labels.{In, label, joined-same, same-joined}
 use Rattle.wirings.specs.Limits.{fixedRuns, unstruckRuns, least, most, fixed-in, in-fixed, unstruck-in, in-unstruck, usedRuns, in-used, used-in, lawful-more, lawful-less, lawful-fed, lawful-count}
 use Rattle.wirings.specs.Loops.{closing-loops}
 use Rattle.wirings.specs.Pieces.{pieces-same}
-use Rattle.wirings.specs.Theorem1.{Opens, Meets, exists, forest}
+use Rattle.wirings.specs.Theorem1.{Meets, exists, forest}
 use Rattle.wirings.specs.Wiring.{Order, Wiring, Used, Leads, along, back, Joined, here, on, Fed, Lawful}
 
 -- the unstruck runs other than e

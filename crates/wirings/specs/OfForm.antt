@@ -1,15 +1,14 @@
 -- The order that a form's fields make.
-use Prim.Native.Nat.{ℕ, zero, suc, _+_, _*_, _≤_, _<_}
+use Prim.Native.Nat.{ℕ, zero, suc, _≤_, _<_}
 use mathlib.Core.Bool.{Bool}
 use mathlib.Core.List.{List}
-use mathlib.Core.Path.{_≡_, refl, sym, ap, ap₂, subst, _∙_}
+use mathlib.Core.Path.{_≡_, refl, sym, ap₂}
 use lib.ListN.{length, getD, List·getD-eq-default}
-use native.Mathlib.Decide.{decLt, ℕ-discrete}
+use native.Mathlib.Decide.{decLt}
 use native.Mathlib.Omega.{arith}
 use Rattle.answer.specs.Laws.{fact}
 use Rattle.answer.specs.Table.{each, Clear, Clears}
 use Rattle.layout.specs.Layout.{sizes, runsIn, endU, endV, stateOf, Fields}
-use Rattle.layout.specs.Laws.{whole-runs}
 use Rattle.layout.specs.Rows.{Good, Fresh, soundRows}
 use Rattle.wirings.specs.Chosen.{taken, chosen}
 use Rattle.wirings.specs.Counted.{Sound}

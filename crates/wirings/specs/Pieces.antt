@@ -1,10 +1,10 @@
 -- Pieces: how many there are, how many hold a supply, and what one more run does to both.
-use Prim.Native.Nat.{ℕ, min, max, _+_, _≤_, _<_}
-use mathlib.Core.Path.{_≡_, refl, sym, ap, ap₂, subst, _∙_}
+use Prim.Native.Nat.{ℕ, min, max, _+_, _<_}
+use mathlib.Core.Path.{_≡_, sym, ap, ap₂, _∙_}
 use native.Mathlib.Decide.{decLt}
 use native.Mathlib.Omega.{arith}
 use Rattle.wirings.specs.Labels.{moved, Moved, went, stayed, moves, of-both}
-use Rattle.wirings.specs.Tally.{when, when-is, when-not, When, same, apart, whens, tally, tally-same, tally-add, tally-but, tally-two, zeros}
+use Rattle.wirings.specs.Tally.{when, when-is, when-not, tally, tally-same, tally-add, tally-but, tally-two, zeros}
 
 -- the pieces of some labels among the first n places: a piece is counted at the place that is its own label
 unfoldable pub pieces : ℕ → (ℕ → ℕ) → ℕ

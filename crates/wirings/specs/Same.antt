@@ -1,16 +1,16 @@
 -- A confirmation goes by the lawful wirings alone: the same wirings, the same confirmation; confirming keeps the wirings; confirming twice changes nothing.
 use Prim.Native.Nat.{ℕ, zero, suc, _≤_, _<_}
 use mathlib.Core.Bool.{Bool, true, false}
-use mathlib.Core.Path.{_≡_, refl, sym, ap, subst, _∙_}
+use mathlib.Core.Path.{_≡_, refl, sym, subst, _∙_}
 use native.Mathlib.Decide.{ℕ-discrete}
 use native.Mathlib.Nat.{le-antisymm}
 use native.Mathlib.Omega.{arith}
-use Rattle.wirings.specs.Alike.{Alike, alike-sym, joined-as, used-as, segments-as, lawful-as}
+use Rattle.wirings.specs.Alike.{Alike, alike-sym, joined-as, segments-as, lawful-as}
 use Rattle.wirings.specs.Chosen.{true-not-false}
 use Rattle.wirings.specs.Confirmed.{Never, Always, Some, Mark, kept, struck, pinned, stays, Lowest, Highest, FirstWiring, SegmentNumber, Confirmed}
 use Rattle.wirings.specs.Counted.{Sound}
 use Rattle.wirings.specs.Limits.{counts-one, counts-alike, counts-none}
-use Rattle.wirings.specs.Wiring.{Order, Wiring, Used, Joined, Counts, none, one, skip, Segments, Lawful}
+use Rattle.wirings.specs.Wiring.{Order, Wiring, Used, Segments, Lawful}
 
 -- ---- a mark by the lawful wirings alone, whatever the state was
 pub data Marked (o : Order) (r state : ℕ) : Type 0 where

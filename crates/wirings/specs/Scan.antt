@@ -1,17 +1,15 @@
 -- The scan: possible runs are looked at in some order, and each is taken unless its ends are joined or it would join two supplied pieces when nothing is spare.
-use Prim.Native.Nat.{ℕ, zero, suc, min, _+_, _-_, _≤_, _<_}
-use mathlib.Core.Bool.{Bool, true, false}
-use mathlib.Core.List.{List, [], _∷_}
+use Prim.Native.Nat.{ℕ, zero, suc, min, _+_, _-_, _<_}
+use mathlib.Core.List.{List, _∷_}
 use mathlib.Core.Logic.{_⊎_, inl, inr, ⊎-elim}
-use mathlib.Core.Path.{_≡_, refl, sym, ap, subst, _∙_}
+use mathlib.Core.Path.{_≡_, refl, sym, ap, subst}
 use native.Mathlib.Decide.{ℕ-discrete, decLt}
 use native.Mathlib.Omega.{arith}
-use Rattle.wirings.specs.Counted.{Sound, Runs, comps, stocked, feds, feds-one, feds-mono, fed-stocked, stocked-fed, all-fed}
+use Rattle.wirings.specs.Counted.{Sound, Runs, stocked, feds, feds-one, stocked-fed}
 use Rattle.wirings.specs.Forest.{Forest}
 use Rattle.wirings.specs.Joined.{joined-mono, fed-mono}
-use Rattle.wirings.specs.Labels.{In, label, label-mono, label-least, joined-label, joined-same, same-joined}
-use Rattle.wirings.specs.Pieces.{pieces, pieces-same}
-use Rattle.wirings.specs.Wiring.{Order, Leads, along, back, Joined, here, on, Fed}
+use Rattle.wirings.specs.Labels.{In, label, same-joined}
+use Rattle.wirings.specs.Wiring.{Order, Joined, Fed}
 
 -- the runs taken so far, and how many more may join two supplied pieces
 pub record Scan : Type 0 where

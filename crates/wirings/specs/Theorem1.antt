@@ -1,24 +1,24 @@
 -- Theorem 1 of the paper: a lawful wiring exists exactly if the fixed runs have no loop, each component over unstruck runs holds a supply, and low..high meets MIN..MAX;
 -- and then there is one of every count that lies in both.
-use Prim.Native.Nat.{ℕ, zero, suc, min, max, _+_, _-_, _≤_, _<_}
+use Prim.Native.Nat.{ℕ, zero, suc, max, _-_, _≤_, _<_}
 use mathlib.Core.Bool.{Bool, true, false}
 use mathlib.Core.List.{List, [], _∷_}
 use mathlib.Core.Logic.{_↔_, _⊎_, inl, inr, ⊎-elim}
-use mathlib.Core.Path.{_≡_, refl, sym, ap, subst, _∙_}
+use mathlib.Core.Path.{_≡_, refl, sym, subst, _∙_}
 use borrow.Author.Tests.{eqb-true}
 use lib.Dec.{eqb}
-use native.Mathlib.Decide.{ℕ-discrete, decLt}
+use native.Mathlib.Decide.{ℕ-discrete}
 use native.Mathlib.Nat.{le-antisymm}
 use native.Mathlib.Omega.{arith}
 use Rattle.answer.specs.Table.{Row, each, whole}
-use Rattle.wirings.specs.Chosen.{taken, chosen, chosen-used, used-chosen, true-not-false}
-use Rattle.wirings.specs.Counted.{Sound, Runs, comps, feds, comps-ext, comps-mono, feds-mono, all-fed}
+use Rattle.wirings.specs.Chosen.{taken, chosen, chosen-used, true-not-false}
+use Rattle.wirings.specs.Counted.{Sound, Runs, comps, comps-ext, feds-mono, all-fed}
 use Rattle.wirings.specs.Forest.{Forest, forest-no-loop}
 use Rattle.wirings.specs.Joined.{joined-mono, joined-into, joined-sym, joined-trans, fed-mono}
-use Rattle.wirings.specs.Labels.{In, label, label-mono, label-least, joined-label, same-joined}
-use Rattle.wirings.specs.Limits.{Fixed, Unstruck, fixedRuns, unstruckRuns, least, most, fixed-in, in-fixed, unstruck-in, in-unstruck, usedRuns, in-used, used-in, segments, lawful-less, lawful-fed, lawful-least, lawful-most, lawful-count}
+use Rattle.wirings.specs.Labels.{In, label-mono, label-least, joined-label, same-joined}
+use Rattle.wirings.specs.Limits.{Fixed, Unstruck, fixedRuns, unstruckRuns, least, most, fixed-in, in-fixed, unstruck-in, in-unstruck, usedRuns, in-used, used-in, segments, lawful-less, lawful-fed, lawful-least, lawful-most}
 use Rattle.wirings.specs.Loops.{closing-loops}
-use Rattle.wirings.specs.Pieces.{pieces, pieces-same}
+use Rattle.wirings.specs.Pieces.{pieces-same}
 use Rattle.wirings.specs.Scan.{Scan, Goes, goes, Passed, Kept, kept}
 use Rattle.wirings.specs.Wiring.{Order, Wiring, Used, Leads, along, back, Joined, here, on, Segments, Loop, Fed, Lawful}
 

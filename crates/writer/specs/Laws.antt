@@ -1,17 +1,15 @@
 -- How the check of the fields, the look at the buffer and the copying settle what the writer leaves; and that nothing else is allowed.
-use Prim.Native.Nat.{ℕ, _+_, _-_, _*_, _≤_, _<_}
-use mathlib.Core.List.{List, [], _++_, append-assoc, append-nil}
+use Prim.Native.Nat.{ℕ, _+_, _-_, _*_, _≤_}
+use mathlib.Core.List.{List, [], _++_}
 use mathlib.Core.Path.{_≡_, refl, sym, ap, ap₂, _∙_}
-use lib.ListN.{length, take, drop, length-append, length-drop, drop-of-length-le}
-use lib.Seq.{take-at, take-all, take-length, drop-drop, drop-append-add}
-use native.Mathlib.Omega.{arith}
-use Rattle.answer.specs.Laws.{not-refused, accepted-one, settled-one, refuses, passes, ends, onward, cleared}
+use lib.ListN.{length}
+use Rattle.answer.specs.Laws.{not-refused, settled-one, refuses, passes, ends, onward, cleared}
 use Rattle.answer.specs.Reply.{Reply, accepted, refused}
 use Rattle.answer.specs.Table.{Clears}
 use Rattle.layout.specs.Checked.{told as checked, Checks}
 use Rattle.layout.specs.declared.Checked.{Checked}
 use Rattle.layout.specs.declared.Checked.the-variants.{Sound, Unsound}
-use Rattle.layout.specs.Layout.{sizes, lineAt, runsIn, Fields, lengthFor, contents, lineFour, image, over, overAt}
+use Rattle.layout.specs.Layout.{sizes, lineAt, runsIn, Fields, lengthFor, lineFour, image, over, overAt}
 use Rattle.layout.specs.Image.{head, up-to-runs, up-to-line, over-more}
 use Rattle.layout.specs.Rows.{soundRows}
 use Rattle.writer.specs.Writing.{told, Left, Leaves, Writes}

@@ -1,6 +1,6 @@
 use Prim.Native.Nat.{ℕ, _+_, _<_}
 use denote.Ref.{now}
-use mathlib.Core.Path.{_≡_, sym, subst, ap}
+use mathlib.Core.Path.{_≡_, sym, ap}
 use lib.ListN.{length, length-set}
 use native.Mathlib.Omega.{arith}
 use Rattle.bridges.specs.Climbed.{Climb, climb-start, climb-later, climb-up, climb-other, climb-up′, climb-swap, climb-end}

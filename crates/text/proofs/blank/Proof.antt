@@ -1,5 +1,4 @@
 -- `blank` tells spaces and tabs: a byte that is no space is one if it is a tab.
-use borrow.Author.Needs.{needs}
 use borrow.Author.Tests.{eq-eqb, ne-eqb}
 use Rattle.text.proofs.blank.Statement.{statement}
 use Rattle.text.proofs.blank.Tie as tie

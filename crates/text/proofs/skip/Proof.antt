@@ -1,8 +1,7 @@
 -- `skip` stops at the first byte that it does not go over: all that it has passed are such.
-use Prim.Native.Nat.{_≤_, _<_, _-_}
+use Prim.Native.Nat.{_-_}
 use mathlib.Core.Path.{sym, _∙_}
 use lib.ListN.{length}
-use native.Mathlib.Omega.{arith}
 use Rattle.text.specs.Laws.{unlike, alike, Going, going-none, going-more, reached, reached-end}
 use borrow.Author.Needs.{needs}
 use Rattle.text.proofs.skip.Statement.{statement}
