@@ -242,5 +242,7 @@ fn main() {
     }
     let (small, large) = (times[shapes], times[times.len() - 1]);
     println!("from 64 to 1,024 runs the library takes {:.0} times as long, the plain filter {:.0} times", large.0 / small.0, large.1 / small.1);
-    println!("\nlargest form: {:.2} ms beside {:.0} µs; the aim is about 3 ms or less where the plain filter takes 50 µs", large.0 / 1e6, large.1 / 1e3);
+    let (dense, reading) = (times[0], times[shapes - 1]);
+    let rest = (dense.0 - reading.0, dense.1 - reading.1);
+    println!("without reading, the dense form takes {} ns beside {}, a ratio of {:.1}", grouped(rest.0), grouped(rest.1), rest.0 / rest.1);
 }

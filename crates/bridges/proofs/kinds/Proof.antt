@@ -1,4 +1,4 @@
-use Prim.Native.Nat.{_-_, _≤_}
+use Prim.Native.Nat.{_-_, _≤_, _<_}
 use denote.Ref.{now}
 use mathlib.Core.Logic.{⊎-elim}
 use mathlib.Core.Path.{_≡_, refl, subst}
@@ -16,6 +16,10 @@ Inv-loop places runs m states rank up via order passed₀ r₀ passed r = (r ≤
 abbrev μ-loop : tie.MeasureT-loop
 μ-loop places runs m states rank up via order passed₀ r₀ passed r = m - r
 
+-- both ends of the run that was read are places
+ends : (c : tie.After-run-at Inv-loop μ-loop) → (c .run-at .result .u < 256) × (c .run-at .result .v < 256)
+ends c = let a = c .before .before .before .before .before .before .before .before .before .before .before in let e = (run-ends (now (a .args .places)) (now (a .args .runs)) (a .args .m) (a .pre) (omega arith) (c .run-at .ensures)) in (omega (arith, e .0, a .pre .small), omega (arith, e .1, a .pre .small))
+
 grow-requires : tie.Need-grow-requires Inv-loop μ-loop
 grow-requires c κs = search needs
 
@@ -29,23 +33,19 @@ run-at-requires : tie.Need-run-at-requires Inv-loop μ-loop
 run-at-requires c κs = search needs
 
 mul-wide : tie.Need-mul-wide Inv-loop μ-loop
-mul-wide c = let a = c .before .before .before .before .before .before .before .before .before .before .before in let f = c .before .before .before .before .before .before .before .before .grow .result in let g = c .before .before .before .before .before .before .before .before .grow .ensures in
-    let e = (run-ends (now (a .args .places)) (now (a .args .runs)) (a .args .m) (a .pre) (omega arith) (c .run-at .ensures)) .0 in let s = a .pre .small in omega arith
+mul-wide c = let e = ends c in omega arith
 
 array-read-wide : tie.Need-array-read-wide Inv-loop μ-loop
-array-read-wide c = let a = c .before .before .before .before .before .before .before .before .before .before .before in let f = c .before .before .before .before .before .before .before .before .grow .result in let g = c .before .before .before .before .before .before .before .before .grow .ensures in
-    let e = (run-ends (now (a .args .places)) (now (a .args .runs)) (a .args .m) (a .pre) (omega arith) (c .run-at .ensures)) .0 in let s = a .pre .small in omega arith
+array-read-wide c = ends c .0
 
 wide-requires : tie.Need-wide-requires Inv-loop μ-loop
 wide-requires c κs = search needs
 
 mul-wide-2 : tie.Need-mul-wide-2 Inv-loop μ-loop
-mul-wide-2 c = let a = c .before .before .before .before .before .before .before .before .before .before .before .before .before in let f = c .before .before .before .before .before .before .before .before .before .before .grow .result in let g = c .before .before .before .before .before .before .before .before .before .before .grow .ensures in
-    let e = (run-ends (now (a .args .places)) (now (a .args .runs)) (a .args .m) (a .pre) (omega arith) (c .before .before .run-at .ensures)) .1 in let s = a .pre .small in omega arith
+mul-wide-2 c = let e = ends (c .before .before) in omega arith
 
 array-read-wide-2 : tie.Need-array-read-wide-2 Inv-loop μ-loop
-array-read-wide-2 c = let a = c .before .before .before .before .before .before .before .before .before .before .before .before .before in let f = c .before .before .before .before .before .before .before .before .before .before .grow .result in let g = c .before .before .before .before .before .before .before .before .before .before .grow .ensures in
-    let e = (run-ends (now (a .args .places)) (now (a .args .runs)) (a .args .m) (a .pre) (omega arith) (c .before .before .run-at .ensures)) .1 in let s = a .pre .small in omega arith
+array-read-wide-2 c = ends (c .before .before) .1
 
 wide-requires-2 : tie.Need-wide-requires-2 Inv-loop μ-loop
 wide-requires-2 c κs = search needs
