@@ -8,7 +8,7 @@ use lib.ListN.{length, set, length-set}
 use lib.Seq.{getD-set-same, getD-set-other}
 use native.Mathlib.Decide.{ℕ-discrete, decLt}
 use native.Mathlib.Omega.{arith}
-use Rattle.bridges.specs.Grown.{Reached, Grown, Under, self, more, Outside, via-one, side, bypass}
+use Rattle.forest.specs.Grown.{Reached, Grown, Under, self, more, Outside, via-one, side, bypass}
 use Rattle.pieces.specs.Holds.{at}
 use Rattle.wirings.specs.Joined.{joined-trans, joined-sym, joined-mono}
 use Rattle.wirings.specs.Limits.{Unstruck}

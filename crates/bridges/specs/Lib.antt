@@ -1,9 +1,6 @@
 pub mod Kinds
 pub mod One
-pub mod Grown
 pub mod Climbed
-pub mod Links
 pub mod Supplied
-pub mod Growing
 pub mod Routine
 pub mod Steps

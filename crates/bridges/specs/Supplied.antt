@@ -7,7 +7,7 @@ use lib.ListN.{length, set, length-set}
 use lib.Seq.{getD-set-same, getD-set-other}
 use native.Mathlib.Decide.{ℕ-discrete}
 use native.Mathlib.Omega.{arith}
-use Rattle.bridges.specs.Grown.{Grown, Under, self, more}
+use Rattle.forest.specs.Grown.{Grown, Under, self, more}
 use Rattle.pieces.specs.Holds.{at}
 use Rattle.wirings.specs.Wiring.{Order}
 

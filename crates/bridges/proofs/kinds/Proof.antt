@@ -3,7 +3,7 @@ use denote.Ref.{now}
 use mathlib.Core.Logic.{⊎-elim}
 use mathlib.Core.Path.{_≡_, refl, subst}
 use native.Mathlib.Omega.{arith}
-use Rattle.bridges.specs.Routine.{orderAt}
+use Rattle.forest.specs.Parts.{orderAt}
 use Rattle.bridges.specs.Steps.{Marking, marking-none, marking-skip, marking-climb, struck-run, run-ends, way-to, crossed, kinds-told}
 use Rattle.pieces.specs.Holds.{at}
 use borrow.Author.Needs.{needs}

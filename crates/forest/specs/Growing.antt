@@ -8,8 +8,8 @@ use lib.Seq.{getD-set-same, getD-set-other}
 use native.Mathlib.Decide.{ℕ-discrete, decLt}
 use native.Mathlib.Nat.{le-refl}
 use native.Mathlib.Omega.{arith}
-use Rattle.bridges.specs.Grown.{Reached, Grown}
-use Rattle.bridges.specs.Links.{Entry, entry-leads, entry-below, Before, Linked}
+use Rattle.forest.specs.Grown.{Reached, Grown}
+use Rattle.forest.specs.Links.{Entry, entry-leads, entry-below, Before, Linked}
 use Rattle.pieces.specs.Holds.{at}
 use Rattle.wirings.specs.Joined.{leads-back}
 use Rattle.wirings.specs.Limits.{Unstruck, counts-alike}

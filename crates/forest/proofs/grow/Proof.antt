@@ -5,14 +5,14 @@ use mathlib.Core.Logic.{⊎-elim}
 use mathlib.Core.Path.{_≡_, refl, subst}
 use lib.ListN.{length, length-replicate}
 use native.Mathlib.Omega.{arith}
-use Rattle.bridges.specs.Growing.{placed-most, placed-less}
-use Rattle.bridges.specs.Links.{entry-leads, entry-one, Linked}
-use Rattle.bridges.specs.Routine.{orderAt}
-use Rattle.bridges.specs.Steps.{Grows, inside, grows-none, at-hand, down, far-end, grows-seen, grows-child, grows-next, grows-pass, grows-root, candidate-taken, candidate-none, grows-grown, grows-ranked}
+use Rattle.forest.specs.Growing.{placed-most, placed-less}
+use Rattle.forest.specs.Links.{entry-leads, entry-one, Linked}
+use Rattle.forest.specs.Parts.{orderAt}
+use Rattle.forest.specs.Steps.{Grows, inside, grows-none, at-hand, down, far-end, grows-seen, grows-child, grows-next, grows-pass, grows-root, candidate-taken, candidate-none, grows-grown, grows-ranked}
 use Rattle.pieces.specs.Holds.{at, fits-ended}
 use borrow.Author.Needs.{needs}
-use Rattle.bridges.proofs.grow.Statement.{statement}
-use Rattle.bridges.proofs.grow.Tie as tie
+use Rattle.forest.proofs.grow.Statement.{statement}
+use Rattle.forest.proofs.grow.Tie as tie
 
 abbrev Inv-loop : tie.InvT-loop
 Inv-loop places runs m head prev n order₀ rank₀ up₀ via₀ count₀ now₀ x₀ c₀ i₀ order rank up via count now x c i =

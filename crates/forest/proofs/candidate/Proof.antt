@@ -2,15 +2,15 @@ use lib.ListN.{length}
 use denote.Ref.{now}
 use mathlib.Core.Path.{ap}
 use Rattle.pieces.specs.Holds.{at}
-use Rattle.bridges.specs.Steps.{less-one}
+use Rattle.forest.specs.Steps.{less-one}
 use mathlib.Core.Path.{refl}
 use native.Mathlib.Omega.{arith}
-use Rattle.bridges.specs.Routine.{supply, place, none}
+use Rattle.forest.specs.Parts.{supply, place, none}
 use borrow.Author.Needs.{needs}
-use Rattle.bridges.proofs.candidate.Statement.{statement}
-use Rattle.bridges.proofs.candidate.Tie as tie
-use Rattle.bridges.proofs.candidate.Reads as reads
-use Rattle.bridges.proofs.candidate.Lts as lts
+use Rattle.forest.proofs.candidate.Statement.{statement}
+use Rattle.forest.proofs.candidate.Tie as tie
+use Rattle.forest.proofs.candidate.Reads as reads
+use Rattle.forest.proofs.candidate.Lts as lts
 
 -- src/lib.rt:145:12
 shared-slice-read-if2 : tie.Need-shared-slice-read-if2

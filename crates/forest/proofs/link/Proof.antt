@@ -5,15 +5,15 @@ use mathlib.Core.Logic.{⊎-elim}
 use mathlib.Core.Path.{_≡_}
 use lib.ListN.{length, length-set, length-replicate}
 use native.Mathlib.Omega.{arith}
-use Rattle.bridges.specs.Links.{Linked, linked-none}
-use Rattle.bridges.specs.Routine.{orderAt}
-use Rattle.bridges.specs.Steps.{zeros, link-struck, link-run}
+use Rattle.forest.specs.Links.{Linked, linked-none}
+use Rattle.forest.specs.Parts.{orderAt}
+use Rattle.forest.specs.Steps.{zeros, link-struck, link-run}
 use Rattle.pieces.specs.Holds.{Fits}
 use borrow.Author.Needs.{needs}
-use Rattle.bridges.proofs.link.Statement.{statement}
-use Rattle.bridges.proofs.link.Tie as tie
-use Rattle.bridges.proofs.link.Reads as reads
-use Rattle.bridges.proofs.link.Lts as lts
+use Rattle.forest.proofs.link.Statement.{statement}
+use Rattle.forest.proofs.link.Tie as tie
+use Rattle.forest.proofs.link.Reads as reads
+use Rattle.forest.proofs.link.Lts as lts
 use Rattle.layout.proofs.run_at.Reads as run-at-reads
 
 abbrev Inv-loop : tie.InvT-loop

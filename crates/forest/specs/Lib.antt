@@ -1,0 +1,5 @@
+pub mod Grown
+pub mod Links
+pub mod Growing
+pub mod Parts
+pub mod Steps
