@@ -8,7 +8,7 @@ use native.Mathlib.Omega.{arith}
 use Rattle.amend.specs.Amending.{Says, amendRows, written, Leaves}
 use Rattle.amend.specs.Calls.{Like, over-like, outcome, spoken, written-order, acc, next, next-settled, keys, next-like, next-form, Shows, ends-at, equal-as, shows-one}
 use Rattle.amend.specs.Fields.{written-wholes, written-places, written-ends, written-alike, written-sound}
-use Rattle.amend.specs.Keying.{Settled-form, Call, Accepts, last, before, MeetsRefusal, here, later, writtenAll}
+use Rattle.amend.specs.Keying.{Settled-form, Call, Amender, AllOf, Accepts, last, before, MeetsRefusal, here, later, writtenAll}
 use Rattle.amend.specs.Settling.{room-as, well-named, well-ordered}
 use Rattle.answer.specs.Laws.{not-refused, cleared, settled-last, clears-join, clear}
 use Rattle.answer.specs.Reply.{Reply, accepted, refused, Counts}
@@ -103,20 +103,21 @@ never-refused g {w} {segment} t e well b h o (later a {L = L} lent left call ok 
 room-on : (g : Fields) {w : Wiring} {segment : ℕ → ℕ} → Settled-form g w segment → {s : List ℕ} → s ≡ image sizes g → {lent : Lent} → Room g lent → Room (fieldsOf sizes s) lent
 room-on g t e {lent} room = subst (λ (f : Fields). Room f lent) (sym (ap (fieldsOf sizes) e ∙ fields-back g (t .sound))) room
 
--- ---- any function that meets the contract of `amend`: keying with it is accepted to the end, or meets a refusal
-module _ (amend : List ℕ → Amendment → Lent → Left) (meets : (s : List ℕ) (a : Amendment) (lent : Lent) → Call s a lent (amend s a lent)) where
+-- ---- any function that meets the contract of `amend`, of the forms and amendments that can be handed to it: keying with it is accepted to the end, or
+-- meets a refusal
+module _ {lent : Lent} {Can : List ℕ → Type 0} {Said : Amendment → Type 0} {amend : List ℕ → Amendment → Left} (f : Amender lent Can Said amend) where
   replied : (r : Reply Counts) → ((k : Counts) × (r ≡ accepted k)) ⊎ ((i : ℕ) × (j : ℕ) × (r ≡ refused i j))
   replied (accepted k) = inl (k, refl)
   replied (refused i j) = inr (i, j, refl)
 
-  keying : (g : Fields) {w : Wiring} {segment : ℕ → ℕ} → Settled-form g w segment → {s : List ℕ} → s ≡ image sizes g → (a : Amendment) (L : List Amendment) (lent : Lent) → Room g lent
+  keying : (g : Fields) {w : Wiring} {segment : ℕ → ℕ} → Settled-form g w segment → {s : List ℕ} → s ≡ image sizes g → Can s → (a : Amendment) (L : List Amendment) → AllOf Said (a ∷ L) → Room g lent
       → ((left : Left) × Accepts s (a ∷ L) lent left) ⊎ MeetsRefusal s (a ∷ L)
-  keying g t {s} e a [] lent room = let left = amend s a lent in let call = meets s a lent in
+  keying g t {s} e can a [] said room = let left = amend s a in let call = f .meets s a can (said .0) in
       ⊎-elim (λ (k, ok). inl (left, last a lent left call ok)) (λ (i, j, stop). inr (here a lent left (room-on g t e room) call stop)) (replied (left .reply))
-  keying g t {s} e a (b ∷ L) lent room = let left = amend s a lent in let call = meets s a lent in
+  keying g t {s} e can a (b ∷ L) said room = let left = amend s a in let call = f .meets s a can (said .0) in
       ⊎-elim (λ (k, ok). let c = subst (λ (x : List ℕ). Call x a lent left) e call in let like = next-like g t a lent left c ok in let g′ = next g t a lent left c ok in
       ⊎-elim (λ (end, r). inl (end, before a lent left call ok r)) (λ r. inr (later a lent left call ok r))
-      (keying g′ (next-settled g t a lent left c ok) (ap (λ (x : List ℕ). take (length x) (left .lent .form)) e ∙ next-form g t a lent left c ok) b L lent
+      (keying g′ (next-settled g t a lent left c ok) (ap (λ (x : List ℕ). take (length x) (left .lent .form)) e ∙ next-form g t a lent left c ok) (f .again s a can (said .0)) b L (said .1)
       (room-as g g′ (sym (ap length (like .places))) (sym (same-m (like .ends))) room)))
       (λ (i, j, stop). inr (here a lent left (room-on g t e room) call stop)) (replied (left .reply))
 
@@ -148,9 +149,10 @@ module _ (g : Fields) {w : Wiring} {segment : ℕ → ℕ} (t : Settled-form g w
       let c = lawful-confirmed (image sizes x) lent q (read-back x sound) (subst (λ (y : Fields). Room y lent) back there) b (subst (λ (y : Fields). Lawful (orderOf y) b) back lawful) f in
       (record { struck = c .struck; pinned = c .pinned }, c .reply)
 
-  -- For a confirmed form, well-formed amendments L, keyed in any order K, filtering after each, and buffers long enough. If some lawful wiring obeys them
+  -- For a confirmed form, well-formed amendments L, keyed in any order, filtering after each, and buffers long enough. If some lawful wiring obeys them
   -- all, each is accepted, and the end is the form, wiring and segment numbers of filtering once with all of them written in; if none does, a refusal is met.
-  module _ (amend : List ℕ → Amendment → Lent → Left) (meets : (s : List ℕ) (a : Amendment) (lent : Lent) → Call s a lent (amend s a lent)) (lent : Lent) (room : Room g lent) where
+  module _ {lent : Lent} (room : Room g lent) {Can : List ℕ → Type 0} {Said : Amendment → Type 0} {amend : List ℕ → Amendment → Left} (f : Amender lent Can Said amend)
+      (can : Can (image sizes g)) (said : AllOf Said (first ∷ others)) where
     pub demand-3 : (((b : Wiring) × Lawful (orderOf g) b × ObeysAll (orderOf g) b L)
         → ((p : Left) × Accepts (image sizes g) (first ∷ others) lent p)
         × (MeetsRefusal (image sizes g) (first ∷ others) → ⊥)
@@ -161,14 +163,14 @@ module _ (g : Fields) {w : Wiring} {segment : ℕ → ℕ} (t : Settled-form g w
       λ (b, h, o). let none = never-refused g t refl (well-formed-permuted (orderOf g) pm well) b h (obeys-permuted (orderOf g) b pm .0 o) in (
         ⊎-elim (λ a. a) (λ r. absurd (none r)) keyed,
         none,
-        λ p q a f. let k = once-accepted b h o room f in (k, as-once b h o a f (k .1)),
+        λ p q a once. let k = once-accepted b h o room once in (k, as-once b h o a once (k .1)),
       ),
       λ none. let refused′ : (p : Left) → Accepts (image sizes g) (first ∷ others) lent p → ⊥ = λ p a. let (y, k, s) = ends-at g t refl a in let (b, h, o) = stops start k in none b h (obeys-permuted (orderOf g) b pm .1 o) in
           (⊎-elim (λ (p, a). absurd (refused′ p a)) (λ r. r) keyed, refused′),
     )
       where
         keyed : ((p : Left) × Accepts (image sizes g) (first ∷ others) lent p) ⊎ MeetsRefusal (image sizes g) (first ∷ others)
-        keyed = keying amend meets g t refl first others lent room
+        keyed = keying f g t refl can first others said room
 
 -- ---- lists that the same wirings obey end alike
 module _ (g : Fields) {w : Wiring} {segment : ℕ → ℕ} (t : Settled-form g w segment) where

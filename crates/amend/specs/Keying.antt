@@ -25,6 +25,16 @@ Call s (pin r) lent left = Leaves s 1 r 0 lent left
 Call s (strike r) lent left = Leaves s 2 r 0 lent left
 Call s (narrow a b) lent left = Leaves s 3 a b lent left
 
+-- a function that meets the contract of `amend` with these buffers, for the forms and the amendments that can be handed to it (of `amend` itself: lists of
+-- bytes, and numbers of 16 bits); what it leaves in the form buffer can be handed in again
+pub record Amender (lent : Lent) (Can : List ℕ → Type 0) (Said : Amendment → Type 0) (amend : List ℕ → Amendment → Left) : Type 0 where
+  pub meets : (s : List ℕ) (a : Amendment) → Can s → Said a → Call s a lent (amend s a)
+  pub again : (s : List ℕ) (a : Amendment) → Can s → Said a → Can (take (length s) (amend s a .lent .form))
+
+abbrev pub AllOf : (Amendment → Type 0) → List Amendment → Type 0
+AllOf P [] = Unit {0}
+AllOf P (a ∷ L) = P a × AllOf P L
+
 -- § 8.5: keyed in this order, each to the form that the call before it left, all are accepted; `left` is what the last call left of its buffers
 pub data Accepts : List ℕ → List Amendment → Lent → Left → Type 0 where
   last : {s : List ℕ} (a : Amendment) (lent : Lent) (left : Left) {k : Counts} → Call s a lent left → left .reply ≡ accepted k → Accepts s (a ∷ []) lent left
