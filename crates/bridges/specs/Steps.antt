@@ -11,11 +11,11 @@ use Rattle.bridges.specs.Climbed.{Passed, Climbed}
 use Rattle.forest.specs.Grown.{Grown, Under, Outside, outside-run, way-or-outside, outside-bypassed, via-one, bridge-fed, bridge-bare, bridge-bypassed}
 use Rattle.bridges.specs.Kinds.{Kinds}
 use Rattle.forest.specs.Parts.{orderAt}
-use Rattle.forest.specs.Steps.{zeros}
 use Rattle.bridges.specs.Routine.{Crossed, Copied, Of, Ruled, round, supplied, bare, Told}
 use Rattle.bridges.specs.Supplied.{Feeding, feeding-start, feeding-up, feeding-pass}
 use Rattle.layout.specs.Layout.{sizes, endU, endV, Shows}
 use Rattle.pieces.specs.Holds.{at, Fits}
+use Rattle.pieces.specs.Laws.{zeros}
 use Rattle.wirings.specs.Alike.{Alike, alike-sym, joined-as, fed-as}
 use Rattle.wirings.specs.Limits.{Unstruck}
 use Rattle.wirings.specs.Marks.{Others, Bridge, bypassed}

@@ -1,5 +1,5 @@
 -- The growth of the forest, place by place.
-use Prim.Native.Nat.{ℕ, suc, _+_, _-_, _*_, _≤_, _<_}
+use Prim.Native.Nat.{ℕ, _+_, _-_, _*_, _≤_, _<_}
 use mathlib.Core.List.{List}
 use mathlib.Core.Logic.{_⊎_, inl, inr, ⊎-elim}
 use mathlib.Core.Path.{_≡_, refl, sym, ap, subst, _∙_}
@@ -12,30 +12,8 @@ use Rattle.forest.specs.Grown.{Reached, Grown}
 use Rattle.forest.specs.Links.{Entry, entry-leads, entry-below, Before, Linked}
 use Rattle.pieces.specs.Holds.{at}
 use Rattle.wirings.specs.Joined.{leads-back}
-use Rattle.wirings.specs.Limits.{Unstruck, counts-alike}
-use Rattle.wirings.specs.Wiring.{Order, Leads, Counts, none, one, skip}
-
--- ---- counting: where one more has the property, one more is counted; where one has it not, not all are counted
-counts-more : {P Q : ℕ → Type 0} {n k z : ℕ} → Counts P n k → z < n → (P z → ⊥) → Q z → ((y : ℕ) → (y ≡ z → ⊥) → P y → Q y) → ((y : ℕ) → (y ≡ z → ⊥) → Q y → P y) → Counts Q n (suc k)
-counts-more none l f q to from = absurd (omega arith)
-counts-more {P} {z = z} (one {n = n} c p) l f q to from = elim (ℕ-discrete n z) [
-  | yes e ↦ absurd (f (subst P e p))
-  | no d ↦ one (counts-more c (omega arith) f q to from) (to n d p)
-]
-counts-more {Q = Q} {z = z} (skip {n = n} c p) l f q to from = elim (ℕ-discrete n z) [
-  | yes e ↦ one (counts-alike (λ y i. to y (λ d. omega arith)) (λ y i. from y (λ d. omega arith)) c) (subst Q (sym e) q)
-  | no d ↦ skip (counts-more c (omega arith) f q to from) (λ h. p (from n d h))
-]
-
-counts-most : {P : ℕ → Type 0} {n k : ℕ} → Counts P n k → k ≤ n
-counts-most none = omega arith
-counts-most (one c p) = omega (arith, counts-most c)
-counts-most (skip c p) = omega (arith, counts-most c)
-
-counts-less : {P : ℕ → Type 0} {n k z : ℕ} → Counts P n k → z < n → (P z → ⊥) → k < n
-counts-less none l f = absurd (omega arith)
-counts-less {P} {z = z} (one {n = n} c p) l f = elim (ℕ-discrete n z) [ yes e ↦ absurd (f (subst P e p)) | no d ↦ omega (arith, counts-less c (omega arith) f) ]
-counts-less (skip c p) l f = omega (arith, counts-most c)
+use Rattle.wirings.specs.Limits.{Unstruck, counts-more, counts-most, counts-less}
+use Rattle.wirings.specs.Wiring.{Order, Leads, Counts, none}
 
 -- ---- the places so far
 pub record Placed (o : Order) (order rank up via : List ℕ) (count : ℕ) : Type 0 where

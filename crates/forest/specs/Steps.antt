@@ -1,9 +1,9 @@
 -- One turn of each loop of the growth.
-use Prim.Native.Nat.{ℕ, zero, suc, _+_, _-_, _*_, _/_, _≤_, _<_}
+use Prim.Native.Nat.{ℕ, _+_, _-_, _*_, _/_, _≤_, _<_}
 use mathlib.Core.List.{List}
 use mathlib.Core.Logic.{_⊎_, inl, inr, ⊎-elim}
 use mathlib.Core.Path.{_≡_, refl, sym, ap, subst, _∙_}
-use lib.ListN.{length, set, replicate, length-replicate, getD-replicate, List·getD-eq-default}
+use lib.ListN.{length, set, replicate, length-replicate}
 use lib.Seq.{getD-set-same}
 use native.Mathlib.Decide.{decLt}
 use native.Mathlib.Omega.{arith}
@@ -13,13 +13,10 @@ use Rattle.forest.specs.Links.{Entry, at-u, at-v, entry-leads, leads-ent
 use Rattle.forest.specs.Parts.{orderAt, Far, Candidate, supply, place, none, Ranked}
 use Rattle.layout.specs.Layout.{sizes, endU, endV, Shows}
 use Rattle.pieces.specs.Holds.{at, Fits}
+use Rattle.pieces.specs.Laws.{zeros}
 use Rattle.wirings.specs.Joined.{leads-back}
-use Rattle.wirings.specs.Limits.{Unstruck}
-use Rattle.wirings.specs.Wiring.{Order, Leads, along, back, here, Counts, none as no-count, one, skip}
-
--- an array of zeros has nothing else
-pub zeros : (k x : ℕ) → at (replicate k 0) x ≡ 0
-zeros k x = elim (decLt x k) [ yes l ↦ getD-replicate {A = ℕ} k x 0 0 l | no l ↦ List·getD-eq-default (replicate k 0) 0 {n = x} (omega (arith, length-replicate {A = ℕ} k 0)) ]
+use Rattle.wirings.specs.Limits.{Unstruck, counts-zero, counts-all}
+use Rattle.wirings.specs.Wiring.{Order, Leads, along, back, here, one}
 
 pub less-one : (n y i : ℕ) → n + y ≡ i → y ≡ i - n
 less-one n y i e = omega arith
@@ -60,10 +57,6 @@ pub record Grows (o : Order) (order rank up via : List ℕ) (count now x c i : �
 pub inside : (places runs states : List ℕ) (m : ℕ) → Fits places runs m → (r y z : ℕ) → Unstruck (orderAt places runs states m) r → Leads (orderAt places runs states m) r y z → z < length places
 inside places runs states m f r y z u (along p q) = omega (arith, f .other r (u .0))
 inside places runs states m f r y z u (back p q) = omega (arith, f .one r (u .0))
-
-counts-zero : {P : ℕ → Type 0} → ((y : ℕ) → P y → ⊥) → (n : ℕ) → Counts P n 0
-counts-zero f zero = no-count
-counts-zero f (suc n) = skip (counts-zero f n) (f n)
 
 pub grows-none : {o : Order} {up via : List ℕ} → length up ≡ 256 → length via ≡ 256 → Grows o (replicate 256 0) (replicate 256 0) up via 0 0 0 0 0
 grows-none {o} a b = record {
@@ -202,12 +195,6 @@ candidate-none (none e f g) b = (f, g)
 pub grows-grown : (places runs states : List ℕ) (m : ℕ) → Fits places runs m → {order rank up via : List ℕ} {count now x c i : ℕ} → Grows (orderAt places runs states m) order rank up via count now x c i
     → 2 * length places < i → Grown (orderAt places runs states m) (at rank) (at up) (at via)
 grows-grown places runs states m fits k l = grown (inside places runs states m fits) (k .placed) (k .roots) l
-
--- all places are counted
-counts-all : {P : ℕ → Type 0} {n k : ℕ} → Counts P n k → ((y : ℕ) → y < n → P y) → k ≡ n
-counts-all no-count f = refl
-counts-all (one c p) f = ap suc (counts-all c (λ y l. f y (omega arith)))
-counts-all (skip {n = n} c p) f = absurd (p (f n (omega arith)))
 
 pub grows-ranked : (places runs states : List ℕ) (m : ℕ) {order rank up via : List ℕ} {count now x c i : ℕ} → Grows (orderAt places runs states m) order rank up via count now x c i
     → 2 * length places < i → Ranked (length places) order rank

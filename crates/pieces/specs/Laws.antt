@@ -6,9 +6,9 @@ use mathlib.Core.Logic.{_⊎_, inl, inr, ⊎-elim}
 use mathlib.Core.Path.{_≡_, refl, sym, ap, subst, _∙_}
 use borrow.Author.Count.{below-more}
 use borrow.Author.Tests.{lt-ltb, le-ltb}
-use lib.ListN.{length, getD, set, length-set, replicate, length-replicate, getD-replicate}
+use lib.ListN.{length, getD, set, length-set, replicate, length-replicate, getD-replicate, List·getD-eq-default}
 use lib.Seq.{getD-set-same, getD-set-other}
-use native.Mathlib.Decide.{ℕ-discrete}
+use native.Mathlib.Decide.{ℕ-discrete, decLt}
 use native.Mathlib.Numerals.{add-one}
 use native.Mathlib.Omega.{arith}
 use Rattle.answer.specs.Laws.{going-none, going-more, found-here, found-none}
@@ -19,6 +19,10 @@ use Rattle.wirings.specs.Labels.{moved, Moved, went, stayed, moves, labels}
 use Rattle.wirings.specs.Pieces.{stock}
 use Rattle.wirings.specs.Tally.{when, when-is, when-not, tally}
 use Rattle.pieces.specs.Holds.{at, Holds, Ended, labelsOf, Opens}
+
+-- an array of zeros has nothing else
+pub zeros : (k x : ℕ) → at (replicate k 0) x ≡ 0
+zeros k x = elim (decLt x k) [ yes l ↦ getD-replicate {A = ℕ} k x 0 0 l | no l ↦ List·getD-eq-default (replicate k 0) 0 {n = x} (omega (arith, length-replicate {A = ℕ} k 0)) ]
 
 -- ---- an array that a loop fills from the front: the first i are what f says, the others as they were
 pub record Filled (f : ℕ → ℕ) (before array : List ℕ) (i : ℕ) : Type 0 where

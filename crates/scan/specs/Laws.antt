@@ -5,14 +5,14 @@ use mathlib.Core.Logic.{inl, inr, ⊎-elim}
 use mathlib.Core.Path.{_≡_, refl, sym, ap, subst, subst₂, _∙_}
 use borrow.Author.Tests.{eq-eqb, ne-eqb, lt-ltb, le-ltb, ltb-true}
 use lib.Dec.{eqb}
-use lib.ListN.{length, getD, take, set, length-set, replicate, length-replicate, getD-replicate, List·getD-eq-default}
+use lib.ListN.{length, getD, take, set, length-set, replicate}
 use lib.Seq.{getD-set-same, getD-set-other, getD-take, length-take-le}
 use native.Mathlib.Decide.{ℕ-discrete, decLt}
 use native.Mathlib.Numerals.{add-one}
 use native.Mathlib.Omega.{arith}
 use Rattle.layout.specs.Layout.{sizes, endU, endV, Shows}
 use Rattle.pieces.specs.Holds.{at, Holds, labelsOf, Fits}
-use Rattle.pieces.specs.Laws.{holds-same}
+use Rattle.pieces.specs.Laws.{holds-same, zeros}
 use Rattle.wirings.specs.Chosen.{chosen, flagged}
 use Rattle.wirings.specs.Counted.{stocked}
 use Rattle.wirings.specs.Labels.{In, moved, labels, label, label-le, label-root}
@@ -24,11 +24,6 @@ use Rattle.wirings.specs.Wiring.{Order}
 use Rattle.scan.specs.Scans.{Scanned, Flags, Gets, Merges}
 
 -- ---- flags of fixed runs
-none-flagged : (n r : ℕ) → _≡_ {A = ℕ} (getD (replicate n 0) r 0) 0
-none-flagged n r =
-    elim (decLt r n)
-    [ yes l ↦ getD-replicate {A = ℕ} n r 0 0 l | no l ↦ List·getD-eq-default (replicate n 0) 0 {n = r} (omega (arith, length-replicate {A = ℕ} n 0)) ]
-
 -- one more flag
 module _ (flags : List ℕ) (r : ℕ) (l : r < length flags) where
   raised-here : (j : ℕ) → j ≡ r → getD (set flags r 1) j 0 ≡ 1
@@ -40,8 +35,8 @@ module _ (flags : List ℕ) (r : ℕ) (l : r < length flags) where
 pub flags-none : {states : List ℕ} → Flags states 0 (replicate 1024 0)
 flags-none =
     record {
-      bits = λ r. omega (arith, none-flagged 1024 r);
-      only = λ r l. absurd (omega (arith, none-flagged 1024 r));
+      bits = λ r. omega (arith, zeros 1024 r);
+      only = λ r l. absurd (omega (arith, zeros 1024 r));
       all = λ r l. absurd (omega arith);
     }
 

@@ -1,10 +1,10 @@
 -- MIN and MAX of the paper, and what a lawful wiring has to do with them.
 use Prim.Native.Nat.{ℕ, zero, suc, min, _+_, _-_, _≤_, _<_}
 use mathlib.Core.List.{List}
-use mathlib.Core.Path.{_≡_, refl, ap, subst}
+use mathlib.Core.Path.{_≡_, refl, ap, subst, sym}
 use borrow.Author.Tests.{eqb-true, eq-eqb, ltb-true, lt-ltb}
 use lib.Dec.{eqb, ltb}
-use native.Mathlib.Decide.{decLt}
+use native.Mathlib.Decide.{ℕ-discrete, decLt}
 use native.Mathlib.Omega.{arith}
 use Rattle.wirings.specs.Chosen.{chosen, chosen-used, used-chosen}
 use Rattle.wirings.specs.Counted.{Sound, comps, stocked, feds, comps-mono, feds-mono, all-fed, fed-stocked, stocked-fed}
@@ -63,6 +63,37 @@ pub counts-none : {P : ℕ → Type 0} {n k : ℕ} → ((x : ℕ) → x < n → 
 counts-none f none = refl
 counts-none f (one {n = n} c p) = absurd (f n (omega arith) p)
 counts-none f (skip c p) = counts-none (λ x l. f x (omega arith)) c
+
+-- where none has the property, none is counted; where all have it, all; where one more has it, one more; where one has it not, not all
+pub counts-zero : {P : ℕ → Type 0} → ((y : ℕ) → P y → ⊥) → (n : ℕ) → Counts P n 0
+counts-zero f zero = none
+counts-zero f (suc n) = skip (counts-zero f n) (f n)
+
+pub counts-all : {P : ℕ → Type 0} {n k : ℕ} → Counts P n k → ((y : ℕ) → y < n → P y) → k ≡ n
+counts-all none f = refl
+counts-all (one c p) f = ap suc (counts-all c (λ y l. f y (omega arith)))
+counts-all (skip {n = n} c p) f = absurd (p (f n (omega arith)))
+
+pub counts-more : {P Q : ℕ → Type 0} {n k z : ℕ} → Counts P n k → z < n → (P z → ⊥) → Q z → ((y : ℕ) → (y ≡ z → ⊥) → P y → Q y) → ((y : ℕ) → (y ≡ z → ⊥) → Q y → P y) → Counts Q n (suc k)
+counts-more none l f q to from = absurd (omega arith)
+counts-more {P} {z = z} (one {n = n} c p) l f q to from = elim (ℕ-discrete n z) [
+  | yes e ↦ absurd (f (subst P e p))
+  | no d ↦ one (counts-more c (omega arith) f q to from) (to n d p)
+]
+counts-more {Q = Q} {z = z} (skip {n = n} c p) l f q to from = elim (ℕ-discrete n z) [
+  | yes e ↦ one (counts-alike (λ y i. to y (λ d. omega arith)) (λ y i. from y (λ d. omega arith)) c) (subst Q (sym e) q)
+  | no d ↦ skip (counts-more c (omega arith) f q to from) (λ h. p (from n d h))
+]
+
+pub counts-most : {P : ℕ → Type 0} {n k : ℕ} → Counts P n k → k ≤ n
+counts-most none = omega arith
+counts-most (one c p) = omega (arith, counts-most c)
+counts-most (skip c p) = omega (arith, counts-most c)
+
+pub counts-less : {P : ℕ → Type 0} {n k z : ℕ} → Counts P n k → z < n → (P z → ⊥) → k < n
+counts-less none l f = absurd (omega arith)
+counts-less {P} {z = z} (one {n = n} c p) l f = elim (ℕ-discrete n z) [ yes e ↦ absurd (f (subst P e p)) | no d ↦ omega (arith, counts-less c (omega arith) f) ]
+counts-less (skip c p) l f = omega (arith, counts-most c)
 
 pub counts-pieces : (o : Order) (L : List ℕ) (n : ℕ) → Counts (Smallest o (In L)) n (pieces n (label o L))
 unfolding pieces tally

@@ -7,8 +7,9 @@ use lib.ListN.{length, length-set, length-replicate}
 use native.Mathlib.Omega.{arith}
 use Rattle.forest.specs.Links.{Linked, linked-none}
 use Rattle.forest.specs.Parts.{orderAt}
-use Rattle.forest.specs.Steps.{zeros, link-struck, link-run}
+use Rattle.forest.specs.Steps.{link-struck, link-run}
 use Rattle.pieces.specs.Holds.{Fits}
+use Rattle.pieces.specs.Laws.{zeros}
 use borrow.Author.Needs.{needs}
 use Rattle.forest.proofs.link.Statement.{statement}
 use Rattle.forest.proofs.link.Tie as tie
