@@ -1,4 +1,6 @@
 // One amendment: the form is filtered, the amendment written into the confirmed form, and the result filtered again.
+#![tactic(auto)]
+
 ghost use Rattle.std.specs.Prelude.{◌≡◌, min, ◌<◌, length};
 ghost use Rattle.layout.specs.Layout.{sizes};
 ghost use Rattle.layout.specs.Rows.{fields_of};

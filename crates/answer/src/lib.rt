@@ -1,4 +1,6 @@
 // What every call answers: the paper's answer, and a range of segment counts.
+#![tactic(auto)]
+
 ghost use Rattle.std.specs.Prelude.{◌≡◌, min, max};
 ghost use Rattle.answer.specs.Reply.{both};
 

@@ -1,6 +1,8 @@
 // Which unstruck runs are bridges, and whether both their sides hold a supply, in one pass over a forest grown over the unstruck runs. A run outside the
 // forest is no bridge, and neither is any run of it that one goes round: from the ends of each run outside one climbs to where their ways meet, and marks
 // the places passed. The side of a bridge with the root holds a supply if any does, since supplies are rooted first; the other is summed up backwards.
+#![tactic(auto)]
+
 ghost use Rattle.std.specs.Prelude.{◌≡◌, ◌≤◌, length};
 ghost use Rattle.pieces.specs.Holds.{Fits};
 ghost use Rattle.bridges.specs.Kinds.{Kinds};

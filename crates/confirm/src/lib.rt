@@ -1,4 +1,6 @@
 // Confirms the fields of a form: numbers 9 to 11 of the paper's table, the confirmed states, line four, the first wiring and its labels.
+#![tactic(auto)]
+
 ghost use Rattle.std.specs.Prelude.{◌≡◌, ℕ, ◌*◌, ◌≤◌, ◌<◌, length, get_or};
 ghost use Rattle.answer.specs.Table.{First, Clears};
 ghost use Rattle.wirings.specs.Wiring.{Counts};
@@ -202,7 +204,7 @@ fn marks(
 fn judge(places: &[u8], runs: &[u8], line: Range, states: [u8; 1024]) -> Judged
     requires clears { Clears (sound_rows sizes (record { places = places.now; runs = runs.now; low = line.low; high = line.high })) }
     requires states_of { StatesOf runs.now (runs_in sizes runs.now) states }
-    ensures { Judges (record { places = places.entry.now; runs = runs.now; low = line.low; high = line.high }) result.verdict result.labels result.fed result.least result.most }
+    ensures { Judges (record { places = places.now; runs = runs.now; low = line.low; high = line.high }) result.verdict result.labels result.fed result.least result.most }
 {
     let n = places.len();
     let m = (runs.len() + (RUN - 1)) / RUN;
@@ -239,7 +241,7 @@ fn conclude(
     requires states_of { StatesOf runs.now (runs_in sizes runs.now) states }
     requires judges { Judges (record { places = places.now; runs = runs.now; low = line.low; high = line.high }) judged.verdict judged.labels judged.fed judged.least judged.most }
     requires verdict_value { judged.verdict ≡ Checked.Sound }
-    ensures { Confirms (record { places = places.entry.now; runs = runs.now; low = line.low; high = line.high }) result.verdict result.marks result.used result.segments result.line.low result.line.high result.struck result.pinned }
+    ensures { Confirms (record { places = places.now; runs = runs.now; low = line.low; high = line.high }) result.verdict result.marks result.used result.segments result.line.low result.line.high result.struck result.pinned }
 {
     let m = (runs.len() + (RUN - 1)) / RUN;
     let labels = judged.labels;
@@ -269,7 +271,7 @@ fn conclude(
 // Numbers 9 to 11, and the confirmation.
 pub fn confirm(places: &[u8], runs: &[u8], line: Range) -> Confirmation
     requires { Clears (sound_rows sizes (record { places = places.now; runs = runs.now; low = line.low; high = line.high })) }
-    ensures { Confirms (record { places = places.entry.now; runs = runs.now; low = line.low; high = line.high }) result.verdict result.marks result.used result.segments result.line.low result.line.high result.struck result.pinned }
+    ensures { Confirms (record { places = places.now; runs = runs.now; low = line.low; high = line.high }) result.verdict result.marks result.used result.segments result.line.low result.line.high result.struck result.pinned }
 {
     let states = states(runs, (runs.len() + (RUN - 1)) / RUN);
     let judged = judge(places, runs, line, states);

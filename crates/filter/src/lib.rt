@@ -1,4 +1,6 @@
 // The filter: confirms a form on file, or refuses it, with the first wiring and its segment numbers.
+#![tactic(auto)]
+
 ghost use Rattle.std.specs.Prelude.{◌≡◌, ℕ, ◌*◌, ◌≤◌, length};
 ghost use Rattle.answer.specs.Table.{Decides};
 ghost use Rattle.layout.specs.Layout.{sizes, length_of, over};

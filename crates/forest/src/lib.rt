@@ -1,4 +1,6 @@
 // A forest over the unstruck runs of a form, grown place by place from the supplies first: each place is a root, or was reached from an earlier one.
+#![tactic(auto)]
+
 ghost use Rattle.std.specs.Prelude.{◌≤◌, length};
 ghost use Rattle.pieces.specs.Holds.{at, Ended, Fits};
 ghost use Rattle.forest.specs.Grown.{Grown};

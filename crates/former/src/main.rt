@@ -1,5 +1,7 @@
 // Writes the form that the plain text on standard input says. What is wrong with the text, and a refusal of the writer, is one line on
 // standard error, and then nothing is written.
+#![tactic(auto)]
+
 ghost use Rattle.std.specs.Prelude.{◌≤◌, length};
 
 use answer::Range;

@@ -1,4 +1,6 @@
 // A form as plain text: what one line says, and the fields that all the lines give.
+#![tactic(auto)]
+
 mod fields;
 
 ghost use Rattle.std.specs.Prelude.{◌≤◌};

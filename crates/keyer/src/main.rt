@@ -1,5 +1,7 @@
 // Keys amendments, said in words, to the form on standard input, each to the form that the one before it left, and lists the end as the
 // lister does. With -o FILE the end form is written there first.
+#![tactic(auto)]
+
 ghost use Rattle.std.specs.Prelude.{◌≤◌, ◌<◌, length};
 
 use answer::Answer;

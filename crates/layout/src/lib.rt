@@ -1,4 +1,6 @@
 // The form on file: its sizes, and numbers 2 and 4 to 7 of the paper's table, which reader and writer share.
+#![tactic(auto)]
+
 ghost use Rattle.std.specs.Prelude.{◌≡◌, ◌+◌, ◌*◌, ◌≤◌, ◌<◌, length};
 ghost use Rattle.answer.specs.Table.{First, Decides};
 ghost use Rattle.layout.specs.Layout.{sizes, Shows, line_four_bytes, over_at};
@@ -137,7 +139,7 @@ fn first_repeat(runs: &[u8], m: usize) -> usize
 
 // Numbers 2 and 4 to 7, in their order, of a byte for each place, the records of the runs, and line four.
 pub fn check(places: &[u8], runs: &[u8], line: Range) -> Checked
-    ensures { Checks (record { places = places.entry.now; runs = runs.now; low = line.low; high = line.high }) result }
+    ensures { Checks (record { places = places.now; runs = runs.now; low = line.low; high = line.high }) result }
 {
     let n = places.len();
     let m = (runs.len() + (RUN - 1)) / RUN;
@@ -194,5 +196,5 @@ pub fn put(src: &[u8], form: &mut [u8], at: usize)
     requires { at + length src.now ≤ length form.old }
     ensures { form.new ≡ over_at at src.now form.old }
 {
-    bytes::copy(src, &mut form[at..]);
+    form[at..at + src.len()].copy_from_slice(src);
 }

@@ -1,5 +1,7 @@
 // Lists forms: the confirmed form with its first wiring and segment numbers, or the refusal. Each word names a file with one form; with no
 // words the form is on standard input.
+#![tactic(auto)]
+
 use answer::Answer;
 use libc::STDIN_FILENO;
 

@@ -1,4 +1,6 @@
 // Prints a confirmed form as the paper lists it, a line at a time.
+#![tactic(auto)]
+
 ghost use Rattle.std.specs.Prelude.{◌≡◌, ◌≤◌, length};
 
 use layout::{CONTENTS, RUN, word};

@@ -1,4 +1,6 @@
 // Which places chosen runs join, in numbers per place: each place's label is the smallest place of its piece.
+#![tactic(auto)]
+
 ghost use Rattle.std.specs.Prelude.{◌≡◌, ℕ, ◌≤◌, ◌<◌, min, length, get_or};
 ghost use Rattle.answer.specs.Table.{First};
 ghost use Rattle.wirings.specs.Labels.{moved};

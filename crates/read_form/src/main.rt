@@ -1,4 +1,6 @@
 // Shows what reading finds in the form on standard input: its fields, one to a line, or the refusal.
+#![tactic(auto)]
+
 use layout::{RUN, Run};
 use libc::{STDIN_FILENO, STDOUT_FILENO};
 use reader::Reading;

@@ -1,4 +1,6 @@
 // Reads a form on file: numbers 1 to 7 of the paper's table, and the sections of the image.
+#![tactic(auto)]
+
 ghost use Rattle.std.specs.Prelude.{◌≤◌, length};
 ghost use Rattle.answer.specs.Table.{Decides};
 ghost use Rattle.layout.specs.Layout.{sizes};

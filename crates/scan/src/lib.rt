@@ -1,5 +1,7 @@
 // The scan for the first wiring: possible runs in listed order, each taken unless its ends are joined already or it would join two supplied
 // pieces when nothing is spare.
+#![tactic(auto)]
+
 ghost use Rattle.std.specs.Prelude.{◌≡◌, ◌≤◌, ◌<◌, min};
 ghost use Rattle.pieces.specs.Holds.{Fits};
 ghost use Rattle.scan.specs.Scans.{Scans, Flags, Merges};

@@ -1,4 +1,6 @@
 // The words of a line of text, and the numbers that words say.
+#![tactic(auto)]
+
 ghost use Rattle.std.specs.Prelude.{◌≡◌, ◌+◌, ◌-◌, ◌*◌, ◌≤◌, min, length};
 ghost use Rattle.text.specs.Words.{is_blank, Reaches, Word};
 ghost use Rattle.text.specs.Numbers.{Says};

@@ -1,4 +1,6 @@
 // The library for C: the filter and the amendment, with the answer as four numbers. include/wiring.h says it to C.
+#![tactic(auto)]
+
 ghost use Rattle.std.specs.Prelude.{◌≡◌};
 ghost use Rattle.wiring.specs.Encoding.{encoded, FilterReplies, AmendReplies};
 

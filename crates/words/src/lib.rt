@@ -1,4 +1,6 @@
 // What a program's words say: files to open or to write, and amendments.
+#![tactic(auto)]
+
 ghost use Rattle.std.specs.Prelude.{◌≡◌, ◌+◌, ◌≤◌, ◌<◌, min};
 ghost use Rattle.io.specs.Counts.{IsPrefixLen};
 ghost use Rattle.words.specs.Length.{words_in};

@@ -1,5 +1,7 @@
 // Writes a form of given fields. Standard input has, in 16 bits each, the number of places, low, high and the buffer's length; then a
 // byte for each place; then the run records. The reply goes out on one line, and after it the whole buffer, which held 170 everywhere.
+#![tactic(auto)]
+
 ghost use Rattle.std.specs.Prelude.{◌≤◌};
 
 use answer::Range;

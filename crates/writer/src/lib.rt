@@ -1,4 +1,6 @@
 // Writes a form on file: numbers 2 and 4 to 8 of the paper's table, and the bytes.
+#![tactic(auto)]
+
 ghost use Rattle.std.specs.Prelude.{◌≡◌};
 ghost use Rattle.layout.specs.Layout.{sizes, contents};
 ghost use Rattle.layout.specs.Rows.{Numbers};
@@ -46,7 +48,7 @@ fn table_of_contents(n: usize, m: usize) -> [u8; 20]
 
 // Writes the form of these places, runs and line four at the start of the lent buffer, and keeps the rest of it.
 pub fn write(places: &[u8], runs: &[u8], line: Range, form: &mut [u8]) -> Writing
-    ensures { Writes (record { places = places.entry.now; runs = runs.now; low = line.low; high = line.high }) form.old result form.new }
+    ensures { Writes (record { places = places.now; runs = runs.now; low = line.low; high = line.high }) form.old result form.new }
 {
     let checked = layout::check(places, runs, line);
     if let Checked::Unsound { number, place } = checked {
