@@ -17,9 +17,9 @@ use Rattle.filter.specs.Filtered.{Lent, Left, Accepted, restated, confirmed_fiel
 use Rattle.filter.specs.Laws.{length_restated}
 use Rattle.filter.specs.One.{restated_same, written_one}
 use Rattle.filter.specs.Restated.{State, Ends, restated_ends, same_m, restated_says, states_are, confirmed_alike, still_sound}
-use Rattle.layout.specs.Image.{length_image, fields_back}
+use Rattle.layout.proofs.Image.{length_image, fields_back}
 use Rattle.layout.specs.Layout.{sizes, runs_in, state_of, Fields, length_of, image, over}
-use Rattle.layout.specs.Laws.{whole_runs}
+use Rattle.layout.proofs.Laws.{whole_runs}
 use Rattle.layout.specs.Rows.{fields_of, sound_rows}
 use Rattle.wirings.specs.Alike.{Alike}
 use Rattle.wirings.specs.Amendments.{Amendment, pin, strike, narrow, WellFormed, Obeys, Clash, amended, clash_none}

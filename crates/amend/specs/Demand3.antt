@@ -13,9 +13,9 @@ use Rattle.filter.specs.Demand2.{lawful_clears, lawful_confirmed}
 use Rattle.filter.specs.Filtered.{Lent, Left, Room, Accepted, bit, Written, later_rows, filter_rows}
 use Rattle.filter.specs.Filtered.{Leaves as Filters}
 use Rattle.filter.specs.Restated.{same_m}
-use Rattle.layout.specs.Image.{fields_whole, fields_back, read_back}
+use Rattle.layout.proofs.Image.{fields_whole, fields_back, read_back}
 use Rattle.layout.specs.Layout.{sizes, runs_in, Fields, image, over}
-use Rattle.layout.specs.Laws.{whole_runs}
+use Rattle.layout.proofs.Laws.{whole_runs}
 use Rattle.layout.specs.Rows.{fields_of, read_rows, sound_rows}
 use Rattle.wirings.specs.Alike.{alike_sym}
 use Rattle.wirings.specs.Amendments.{Amendment, WellFormed, AllWellFormed, Obeys, ObeysAll, Permuted, written_in, amended_alike, amendment_cuts, clash_none, all_well_formed_as, obeys_all_as, obeys_permuted, well_formed_permuted, written_wirings}

@@ -15,9 +15,9 @@ use Rattle.answer.specs.Table.{Clears}
 use Rattle.filter.specs.Filtered.{Lent, Left, Accepted, confirmed_fields, later_rows, filter_rows}
 use Rattle.filter.specs.Filtered.{Leaves as Filters}
 use Rattle.filter.specs.Restated.{confirmed_alike, still_sound, image_long}
-use Rattle.layout.specs.Image.{length_image, fields_back}
+use Rattle.layout.proofs.Image.{length_image, fields_back}
 use Rattle.layout.specs.Layout.{sizes, runs_in, Fields, length_of, image}
-use Rattle.layout.specs.Laws.{fields_sound, whole_runs}
+use Rattle.layout.proofs.Laws.{fields_sound, whole_runs}
 use Rattle.layout.specs.Rows.{fields_of, read_rows, sound_rows}
 use Rattle.wirings.specs.Amendments.{Amendment, WellFormed, Clash, amended_alike}
 use Rattle.wirings.specs.OfForm.{order_of}

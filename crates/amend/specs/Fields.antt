@@ -6,7 +6,7 @@ use Rattle.amend.specs.Amending.{written}
 use Rattle.answer.specs.Table.{Clears}
 use Rattle.filter.specs.Restated.{Ends, set_ends, same_u, same_v, same_m, sound_as}
 use Rattle.layout.specs.Layout.{sizes, runs_in, state_of, Fields}
-use Rattle.layout.specs.Laws.{whole_runs}
+use Rattle.layout.proofs.Laws.{whole_runs}
 use Rattle.layout.specs.Rows.{sound_rows}
 use Rattle.wirings.specs.Alike.{Alike}
 use Rattle.wirings.specs.Amended.{put, put_here, put_there, marked_sound}

@@ -11,7 +11,7 @@ use Rattle.filter.specs.One.{restated_same, accepted_same, told_one}
 use Rattle.filter.specs.Filtered.{Lent, Left, Accepted, confirmed_fields, later_rows, filter_rows}
 use Rattle.filter.specs.Restated.{still_sound, same_wirings}
 use Rattle.layout.specs.Layout.{sizes, runs_in, Fields}
-use Rattle.layout.specs.Laws.{fields_sound}
+use Rattle.layout.proofs.Laws.{fields_sound}
 use Rattle.layout.specs.Rows.{fields_of, read_rows, sound_rows}
 use Rattle.wirings.specs.Amendments.{well_formed_as}
 use Rattle.wirings.specs.OfForm.{order_of, order_sound}

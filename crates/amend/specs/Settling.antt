@@ -10,9 +10,9 @@ use Rattle.filter.specs.Demand2.{lawful_confirmed}
 use Rattle.filter.specs.Filtered.{Lent, Left, Room, Accepted, confirmed_fields, later_rows, filter_rows}
 use Rattle.filter.specs.Filtered.{Leaves as Filters}
 use Rattle.filter.specs.Restated.{still_sound, same_wirings}
-use Rattle.layout.specs.Image.{fields_whole, read_back}
+use Rattle.layout.proofs.Image.{fields_whole, read_back}
 use Rattle.layout.specs.Layout.{sizes, runs_in, Fields, image}
-use Rattle.layout.specs.Laws.{fields_sound, whole_runs, counts}
+use Rattle.layout.proofs.Laws.{fields_sound, whole_runs, counts}
 use Rattle.layout.specs.Rows.{fields_of, read_rows, sound_rows}
 use Rattle.wirings.specs.Amendments.{Amendment, pin, strike, narrow, WellFormed, Obeys, Clash, amended, amended_alike, amendment_cuts, clash_none, well_formed_as, obeys_as}
 use Rattle.wirings.specs.Confirmed.{Confirmed}

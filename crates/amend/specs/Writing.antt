@@ -5,9 +5,9 @@ use Rattle.std.proofs.lemmas.List.{set-append_left}
 use Rattle.amend.specs.Amending.{Says, pins, strikes, narrows, Run, Marks, stood, put, WritesIn, unnamed, reversed, clashing, done}
 use Rattle.answer.specs.Laws.{not_refused, settled_last}
 use Rattle.answer.specs.Table.{Clears}
-use Rattle.layout.specs.Image.{head, up_to_runs, up_to_line, length_image, n_is, m_is, fields_back, read_back}
+use Rattle.layout.proofs.Image.{head, up_to_runs, up_to_line, length_image, n_is, m_is, fields_back, read_back}
 use Rattle.layout.specs.Layout.{sizes, word, runs_at, line_at, runs_in, state_of, Fields, contents, line_four_bytes, image, over_at}
-use Rattle.layout.specs.Laws.{whole_runs}
+use Rattle.layout.proofs.Laws.{whole_runs}
 use Rattle.layout.specs.Rows.{fields_of, read_rows, sound_rows}
 use Rattle.reader.specs.declared.Reading.{Reading}
 use Rattle.reader.specs.declared.Reading.TheVariants.{Refused}

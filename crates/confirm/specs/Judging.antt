@@ -6,7 +6,7 @@ use Rattle.answer.specs.Laws.{first_alike}
 use Rattle.answer.specs.Table.{First, Clears}
 use Rattle.confirm.specs.Judged.{StatesOf}
 use Rattle.layout.specs.Layout.{sizes, runs_in, end_u, end_v, Fields}
-use Rattle.layout.specs.Laws.{whole_runs, counts}
+use Rattle.layout.proofs.Laws.{whole_runs, counts}
 use Rattle.layout.specs.Rows.{sound_rows}
 use Rattle.pieces.specs.Holds as holds
 use Rattle.pieces.specs.Holds.{at, Holds, labels_of, Fits}

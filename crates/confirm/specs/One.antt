@@ -8,7 +8,7 @@ use Rattle.confirm.specs.Concluded.{Confirms}
 use Rattle.layout.specs.declared.Checked.{Checked}
 use Rattle.layout.specs.declared.Checked.TheVariants.{Sound}
 use Rattle.layout.specs.Layout.{sizes, Fields}
-use Rattle.layout.specs.Laws.{told_one}
+use Rattle.layout.proofs.Laws.{told_one}
 use Rattle.layout.specs.Rows.{sound_rows}
 use Rattle.pieces.specs.Holds.{at}
 use Rattle.wirings.specs.Chosen.{flagged}

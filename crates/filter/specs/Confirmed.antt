@@ -9,9 +9,9 @@ use Rattle.std.proofs.Math.Seq.{take_at}
 use Rattle.answer.specs.Laws.{fact}
 use Rattle.filter.specs.Filtered.{restated, confirmed_fields}
 use Rattle.filter.specs.Laws.{length_restated}
-use Rattle.layout.specs.Image.{Bytes, head, up_to_runs, up_to_line, over_more, image_back}
+use Rattle.layout.proofs.Image.{Bytes, head, up_to_runs, up_to_line, over_more, image_back}
 use Rattle.layout.specs.Layout.{sizes, word, runs_at, line_at, runs_in, contents, line_four_bytes, image, over, over_at}
-use Rattle.layout.specs.Laws.{places_length, runs_count, fields_sound, whole_runs}
+use Rattle.layout.proofs.Laws.{places_length, runs_count, fields_sound, whole_runs}
 use Rattle.layout.specs.Rows.{Laid, fields_of}
 use Rattle.reader.specs.Laws.{Valid}
 

@@ -7,9 +7,9 @@ use Rattle.answer.specs.Reply.{accepted, Counts}
 use Rattle.answer.specs.Table.{Clears}
 use Rattle.filter.specs.Filtered.{Lent, Left, Room, later_rows, confirmed_fields, Accepted, Leaves}
 use Rattle.filter.specs.Restated.{states_are, still_sound, form_left}
-use Rattle.layout.specs.Image.{fields_back}
+use Rattle.layout.proofs.Image.{fields_back}
 use Rattle.layout.specs.Layout.{sizes, state_of, Fields}
-use Rattle.layout.specs.Laws.{fields_sound}
+use Rattle.layout.proofs.Laws.{fields_sound}
 use Rattle.layout.specs.Rows.{fields_of, read_rows}
 use Rattle.wirings.specs.Chosen.{true_not_false}
 use Rattle.wirings.specs.Confirmed.{Never, Always, Mark, kept, struck, pinned, stays, Lowest, Highest}

@@ -9,7 +9,7 @@ use Rattle.answer.specs.Reply.{accepted, told}
 use Rattle.answer.specs.Table.{Clears}
 use Rattle.filter.specs.Filtered.{Lent, Left, later_rows, restated, bit, Written, Accepted, Leaves, Filters}
 use Rattle.layout.specs.Layout.{sizes, runs_in, Fields, image, over}
-use Rattle.layout.specs.Laws.{fields_sound}
+use Rattle.layout.proofs.Laws.{fields_sound}
 use Rattle.layout.specs.Rows.{fields_of, read_rows, sound_rows}
 use Rattle.wirings.specs.OfForm.{order_of, order_sound}
 use Rattle.wirings.specs.Same.{confirmed_one}

@@ -11,7 +11,7 @@ use Rattle.answer.specs.Table.{Clears}
 use Rattle.filter.specs.Demand2.{lawful_confirmed}
 use Rattle.filter.specs.Filtered.{Lent, Left, Room, restated, Accepted, Leaves}
 use Rattle.layout.specs.Layout.{sizes, over}
-use Rattle.layout.specs.Laws.{fields_sound}
+use Rattle.layout.proofs.Laws.{fields_sound}
 use Rattle.layout.specs.Rows.{Place, Good, fields_of, read_rows}
 use Rattle.wirings.specs.Chosen.{chosen}
 use Rattle.wirings.specs.Counted.{Sound}

@@ -11,9 +11,9 @@ use Rattle.answer.specs.Laws.{clear, fact}
 use Rattle.answer.specs.Table.{First, Clears}
 use Rattle.filter.specs.Filtered.{Lent, Left, Accepted, restated, confirmed_fields}
 use Rattle.filter.specs.Laws.{length_restated}
-use Rattle.layout.specs.Image.{length_image}
+use Rattle.layout.proofs.Image.{length_image}
 use Rattle.layout.specs.Layout.{sizes, length_of, runs_in, end_u, end_v, state_of, Fields, image}
-use Rattle.layout.specs.Laws.{places_length, runs_count, fields_sound, whole_runs}
+use Rattle.layout.proofs.Laws.{places_length, runs_count, fields_sound, whole_runs}
 use Rattle.layout.specs.Rows.{Numbers, Place, Good, fields_of, read_rows, sound_rows}
 use Rattle.wirings.specs.Alike.{Alike}
 use Rattle.wirings.specs.Confirmed.{Confirmed}

@@ -13,9 +13,9 @@ use Rattle.filter.specs.Filtered.{Lent, Left, Room, confirmed_fields, bit, Writt
 use Rattle.layout.specs.Checked.{told as checked}
 use Rattle.layout.specs.declared.Checked.{Checked}
 use Rattle.layout.specs.declared.Checked.TheVariants.{Sound, Unsound}
-use Rattle.layout.specs.Image.{Bytes}
+use Rattle.layout.proofs.Image.{Bytes}
 use Rattle.layout.specs.Layout.{sizes, length_of, Fields, image, over}
-use Rattle.layout.specs.Laws.{taken, taken_is, fields_sound}
+use Rattle.layout.proofs.Laws.{taken, taken_is, fields_sound}
 use Rattle.layout.specs.Rows.{fields_of, sound_rows}
 use Rattle.pieces.specs.Holds.{at}
 use Rattle.reader.specs.declared.Reading.{Reading}

@@ -5,7 +5,7 @@ use Rattle.answer.specs.Laws.{not_refused, accepted_one, settled_one, onward, cl
 use Rattle.answer.specs.Reply.{accepted}
 use Rattle.answer.specs.Table.{Clears}
 use Rattle.layout.specs.Layout.{sizes, word, length_of, Fields}
-use Rattle.layout.specs.Laws.{taken, taken_is}
+use Rattle.layout.proofs.Laws.{taken, taken_is}
 use Rattle.layout.specs.Rows.{Numbers, Heading, heading_of, fields_of, read_rows}
 use Rattle.reader.specs.Reading.{told, Reads, Section}
 use Rattle.reader.specs.declared.Reading.{Reading}

@@ -6,9 +6,9 @@ use Rattle.answer.specs.declared.Range.{Range}
 use Rattle.answer.specs.Laws.{not_refused, accepted_one, cleared, all_clear, clear, fact, clears_join, clears_front}
 use Rattle.answer.specs.Reply.{accepted}
 use Rattle.answer.specs.Table.{Clears}
-use Rattle.layout.specs.Image.{Bytes, fields_back, read_back, n_is, m_is, image_back}
+use Rattle.layout.proofs.Image.{Bytes, fields_back, read_back, n_is, m_is, image_back}
 use Rattle.layout.specs.Layout.{sizes, word, length_of, runs_in, Fields, image, over}
-use Rattle.layout.specs.Laws.{places_length, runs_count, fields_sound}
+use Rattle.layout.proofs.Laws.{places_length, runs_count, fields_sound}
 use Rattle.layout.specs.Rows.{Laid, sound_rows, room_row, write_rows, fields_of, Heading, heading_of, read_rows}
 use Rattle.reader.specs.declared.Reading.{Reading}
 use Rattle.reader.specs.declared.Reading.TheVariants.{Form}

@@ -8,7 +8,7 @@ use Rattle.layout.specs.Checked.{told as checked, Checks}
 use Rattle.layout.specs.declared.Checked.{Checked}
 use Rattle.layout.specs.declared.Checked.TheVariants.{Sound, Unsound}
 use Rattle.layout.specs.Layout.{sizes, line_at, runs_in, Fields, length_for, line_four_bytes, image, over, over_at}
-use Rattle.layout.specs.Image.{head, up_to_runs, up_to_line, over_more}
+use Rattle.layout.proofs.Image.{head, up_to_runs, up_to_line, over_more}
 use Rattle.layout.specs.Rows.{sound_rows}
 use Rattle.writer.specs.Writing.{told, Left, Leaves, Writes}
 use Rattle.writer.specs.declared.Writing.{Writing}

@@ -7,7 +7,7 @@ use Rattle.answer.specs.Laws.{decided, denied}
 use Rattle.answer.specs.declared.Answer.{Answer}
 use Rattle.filter.specs.Filtered.{Lent, Room, Filters}
 use Rattle.filter.specs.Settling.{not_read, no_room, no_wiring, accepts, taken_sound, room_as, as_room, accepted_so, settles_taken}
-use Rattle.layout.specs.Image.{Bytes}
+use Rattle.layout.proofs.Image.{Bytes}
 use Rattle.layout.specs.Layout.{sizes}
 use Rattle.layout.specs.Rows.{fields_of}
 use Rattle.reader.specs.Laws.{Valid, valid}

@@ -1,7 +1,7 @@
 -- `check` settles numbers 2 and 4 to 7: each return passes the rows before its own.
 use Rattle.std.proofs.Common.{refl, arith}
 use Rattle.answer.specs.Laws.{decided, denied, refuses, refuses_at, passes, passes_each, ends}
-use Rattle.layout.specs.Laws.{all_there}
+use Rattle.layout.proofs.Laws.{all_there}
 use Rattle.layout.specs.Layout.{sizes}
 use Rattle.layout.proofs.check.Goals as goal
 

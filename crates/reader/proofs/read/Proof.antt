@@ -8,7 +8,7 @@ use borrow.Author.Tests.{not_true, not-false}
 use Rattle.answer.specs.Laws.{not_refused, as_refused, decided, denied, refuses, passes}
 use Rattle.answer.specs.Reply.{Reply, accepted, refused}
 use Rattle.layout.specs.Checked.{told}
-use Rattle.layout.specs.Laws.{read_on, taken, taken_is}
+use Rattle.layout.proofs.Laws.{read_on, taken, taken_is}
 use Rattle.layout.specs.Layout.{sizes, Fields}
 use Rattle.layout.specs.Rows.{fields_of, Heading, heading_of}
 use Rattle.reader.specs.Reading.{Reply_to}

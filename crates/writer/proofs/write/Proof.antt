@@ -7,8 +7,8 @@ use native.Mathlib.Omega.{arith}
 use borrow.Author.Rules.{rules}
 use Rattle.answer.specs.Reply.{accepted}
 use Rattle.answer.specs.Table.{Clears}
-use Rattle.layout.specs.Image.{length_image}
-use Rattle.layout.specs.Laws.{whole_runs, counts}
+use Rattle.layout.proofs.Image.{length_image}
+use Rattle.layout.proofs.Laws.{whole_runs, counts}
 use Rattle.layout.specs.Layout.{sizes, runs_in, Fields, contents, image}
 use Rattle.layout.specs.Rows.{Numbers, sound_rows}
 use Rattle.writer.specs.Laws.{unsound, sound, too_short, written, four_parts}

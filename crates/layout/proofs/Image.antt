@@ -6,7 +6,7 @@ use Rattle.std.proofs.Math.Seq.{take-length, drop-length, drop-append-add}
 use Rattle.answer.specs.Laws.{clear, fact}
 use Rattle.answer.specs.Table.{Clears}
 use Rattle.layout.specs.Layout.{sizes, word, bytes, part, runs_at, line_at, runs_in, Fields, length_for, contents, line_four_bytes, image, over, over_at}
-use Rattle.layout.specs.Laws.{places_length, runs_count, whole_runs}
+use Rattle.layout.proofs.Laws.{places_length, runs_count, whole_runs}
 use Rattle.layout.specs.Rows.{Numbers, Listed, Laid, field_rows, sound_rows, fields_of, read_rows}
 
 -- the table of contents of these fields
