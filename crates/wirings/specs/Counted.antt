@@ -72,6 +72,7 @@ module _ (o : Order) (ok : Sound o) (r : ℕ) (L : List ℕ) where
 
 -- ---- more runs
 pub in_front : (K L : List ℕ) (r : ℕ) → In K r → In (K ++ L) r
+in_front [] L r h = elim h [ ]
 in_front (x ∷ K) L r (inl e) = inl e
 in_front (x ∷ K) L r (inr h) = inr (in_front K L r h)
 

@@ -46,6 +46,7 @@ module _ (r : ℕ) where
 
   in_without : (L : List ℕ) (j : ℕ) → In L j → (j ≡ r → ⊥) → In (without r L) j
   unfolding without
+  in_without [] j h n = elim h [ ]
   in_without (x ∷ L) j (inl e) n = in_unless (ℕ_discrete x r) (without r L) j (inl e) n
   in_without (x ∷ L) j (inr h) n = in_unless (ℕ_discrete x r) (without r L) j (inr (in_without L j h n)) n
 

@@ -123,6 +123,7 @@ module _ (o : Order) where
 
   ends_same : (L : List ℕ) (r : ℕ) → In L r → label L (o.u r) ≡ label L (o.v r)
   unfolding labels
+  ends_same [] r h = elim h [ ]
   ends_same (x ∷ L) r (inl e) =
       subst (λ (k : ℕ). label (x ∷ L) (o.u k) ≡ label (x ∷ L) (o.v k)) (sym e) (moved_same (label L (o.u x)) (label L (o.v x)))
   ends_same (x ∷ L) r (inr h) = ap (moved (label L (o.u x)) (label L (o.v x))) (ends_same L r h)

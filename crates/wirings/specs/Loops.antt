@@ -35,6 +35,10 @@ loop_closes {o} {Q} c = closed (length c.places - 1) (omega (arith, c.three))
 abbrev Fresh : ℕ → List ℕ → Type 0
 Fresh z ps = (i : ℕ) → i < length ps → get_or ps i 0 ≡ z → ⊥
 
+fresh_head : {y z : ℕ} (ps : List ℕ) → (y ≡ z → ⊥) → Fresh z ps → Fresh z (y ∷ ps)
+fresh_head ps n f zero b = n
+fresh_head ps n f (suc k) b = f k (omega arith)
+
 -- a way through different places from y back to the first end of run r, along other runs: y, the places after it, the runs, and r as the last run
 data Way (o : Order) (Q : ℕ → Type 0) (r : ℕ) : ℕ → List ℕ → List ℕ → Type 0 where
   start : Way o Q r (o.u r) [] (r ∷ [])
@@ -96,7 +100,7 @@ module _ {o : Order} {Q : ℕ → Type 0} {r : ℕ} where
   at_head {y} {ps} {rs} w z c =
       elim (ℕ_discrete y z) [
         | yes e ↦ inl (ps, rs, rw e at w)
-        | no n ↦ ⊎_elim inl (λ f. inr (λ i. elim i [ zero ↦ λ b. n | suc k ↦ λ b. f k (omega arith) ])) c
+        | no n ↦ ⊎_elim inl (λ f. inr (fresh_head _ n f)) c
       ]
 
   on_way : {y : ℕ} {ps rs : List ℕ} → Way o Q r y ps rs → (z : ℕ) → Reached o Q r z ⊎ Fresh z (y ∷ ps)

@@ -58,6 +58,7 @@ in_step x r L (no p) b f (inr h) = f h
 
 pub in_member : (L : List ℕ) (r : ℕ) → In L r → member L r ≡ true
 unfolding member decided
+in_member [] r h = elim h [ ]
 in_member (x ∷ L) r h = in_step x r L (ℕ_discrete r x) (member L r) (in_member L r) h
 
 loop_mono : {o : Order} {P Q : ℕ → Type 0} → ((r : ℕ) → P r → Q r) → Loop o P → Loop o Q
