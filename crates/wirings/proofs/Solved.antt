@@ -12,8 +12,10 @@ use Rattle.wirings.specs.Confirmed.{Never, Always, Some, Mark, kept, struck, pin
 use Rattle.wirings.specs.Counted.{Sound, stocked, fed_stocked, stocked_fed}
 use Rattle.wirings.specs.Joined.{joined_mono, fed_mono}
 use Rattle.wirings.specs.Labels.{In, label, joined_same, same_joined}
-use Rattle.wirings.specs.Limits.{fixed_runs, unstruck_runs, least, most, unstruck_in, in_unstruck}
-use Rattle.wirings.specs.Marks.{Others, never_joined, never_full, some_free, some_spare, free_none, pinned_bare, pinned_fed, free_fed}
+use Rattle.wirings.specs.Limits.{fixed_runs, unstruck_runs, least, most}
+use Rattle.wirings.proofs.Limits.{unstruck_in, in_unstruck}
+use Rattle.wirings.specs.Marks.{Others}
+use Rattle.wirings.proofs.Marks.{never_joined, never_full, some_free, some_spare, free_none, pinned_bare, pinned_fed, free_fed}
 use Rattle.wirings.specs.Scan.{Scan, Verdict, closed, full, free, spends, Goes, begin, pass, look}
 use Rattle.wirings.specs.Theorem1.{Opens, Reached, Meets, Met, order_rows}
 use Rattle.wirings.specs.Wiring.{Order, Joined, Counts, none, one, skip, Fed}
