@@ -1,5 +1,5 @@
 use Rattle.std.proofs.Common.{ℕ, ◌*◌, ◌-◌, List, ◌/◌, ◌≤◌, ◌<◌, ◌≡◌, refl, subst, length, arith}
-use lib.ListN.{length-replicate}
+use Rattle.std.proofs.lemmas.List.{length-replicate}
 use Rattle.forest.specs.Growing.{placed_most, placed_less}
 use Rattle.forest.specs.Links.{Linked, entry_leads, entry_one}
 use Rattle.forest.specs.Parts.{order_at, Links}

@@ -1,5 +1,5 @@
 use Rattle.std.proofs.Common.{ℕ, ◌<◌, ◌≡◌, length-set, arith}
-use lib.ListN.{length-replicate}
+use Rattle.std.proofs.lemmas.List.{length-replicate}
 use Rattle.forest.specs.Links.{linked_none}
 use Rattle.forest.specs.Steps.{link_struck, link_run}
 use Rattle.pieces.specs.Laws.{zeros}
