@@ -1,7 +1,7 @@
 -- `amend_in` filters, writes the amendment in and filters again; each return is one way out of the table.
 use Rattle.std.proofs.Common.{ℕ, List, sym, ap, ◌∙◌, take, length-take-le, arith}
-use Rattle.amend.specs.Ending.{draft_on_file, draft_long, draft_room, not_written, second_long, second_room, second_refused, second_accepted}
-use Rattle.amend.specs.Settling.{Shorter, stopped}
+use Rattle.amend.proofs.Ending.{draft_on_file, draft_long, draft_room, not_written, second_long, second_room, second_refused, second_accepted}
+use Rattle.amend.proofs.Settling.{Shorter, stopped}
 use Rattle.answer.specs.Reply.{told}
 use Rattle.filter.specs.Filtered.{Lent}
 use Rattle.amend.proofs.amend_in.Goals as goal
