@@ -13,7 +13,7 @@ pub struct Range {
 
 // Accepted, with how many possible runs the last filtering struck and pinned; or refused, with the
 // number of the paper's table and the place in the form.
-#[derive(Drop)]
+#[derive(Clone, Copy)]
 pub enum Answer {
     Accepted { struck: u16, pinned: u16 },
     Refused { number: u16, place: u16 },

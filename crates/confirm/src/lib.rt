@@ -17,7 +17,7 @@ use layout::{Checked, RUN};
 
 // What numbers 9 to 11 say of a form and, where they say nothing against it: a byte for each run, its confirmed state; another, 1 where the first
 // wiring uses it; each place's segment number; line four; and how many possible runs were struck, and pinned.
-#[derive(Drop)]
+#[derive(Clone, Copy)]
 pub struct Confirmation {
     pub verdict: Checked,
     pub marks: [u8; 1024],
@@ -275,7 +275,8 @@ pub fn confirm(places: &[u8], runs: &[u8], line: Range) -> Confirmation
 {
     let states = states(runs, (runs.len() + (RUN - 1)) / RUN);
     let judged = judge(places, runs, line, states);
-    if let Checked::Unsound { number, place } = judged.verdict {
+    let verdict = judged.verdict;
+    if let Checked::Unsound { number, place } = verdict {
         return Confirmation {
             verdict: Checked::Unsound { number, place },
             marks: [0; 1024],

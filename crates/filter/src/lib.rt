@@ -121,15 +121,15 @@ pub fn filter(image: &[u8], form: &mut [u8], wiring: &mut [u8], segments: &mut [
     let runs_at = CONTENTS + n;
     let line_at = runs_at + RUN * m;
     let confirmed = confirm::confirm(&image[CONTENTS..runs_at], &image[runs_at..line_at], line);
-    if let Checked::Unsound { number, place } = confirmed.verdict {
+    let verdict = confirmed.verdict;
+    if let Checked::Unsound { number, place } = verdict {
         return Answer::Refused { number, place };
     }
-    let answer = Answer::Accepted {
+    write_all(image, n, m, confirmed, form, wiring, segments);
+    Answer::Accepted {
         struck: confirmed.struck,
         pinned: confirmed.pinned,
-    };
-    write_all(image, n, m, confirmed, form, wiring, segments);
-    answer
+    }
 }
 
 // Writes the three buffers.

@@ -7,7 +7,7 @@ ghost use Rattle.forest.specs.Grown.{Grown};
 ghost use Rattle.forest.specs.Parts.{order_at, Links, Far, Candidate, Ranked};
 
 // The places in the order of growth; each place's rank in it, from 1 on; and the place and the run by which it was reached, run 1,024 for a root.
-#[derive(Drop)]
+#[derive(Clone, Copy)]
 pub struct Forest {
     pub order: [u16; 256],
     pub rank: [u16; 256],

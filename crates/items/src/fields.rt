@@ -8,7 +8,7 @@ use layout::RUN;
 
 // How many bytes of places and of run records are in the lent arrays, and line four; or the first line that is wrong and its word, both
 // counted from 1; or the line past the last, where there is no count.
-#[derive(Drop)]
+#[derive(Clone, Copy)]
 pub enum Gathered {
     Fields {
         places: usize,

@@ -10,7 +10,7 @@ pub use fields::{Gathered, gather};
 use text::Decimal;
 
 // What is wrong with a word of a line.
-#[derive(Drop)]
+#[derive(Clone, Copy)]
 pub enum Fault {
     NotAnItem,
     NoNumber,
@@ -23,7 +23,7 @@ pub enum Fault {
 }
 
 // What one line says. A fault names its word, counted from 1.
-#[derive(Drop)]
+#[derive(Clone, Copy)]
 pub enum Item {
     Nothing,
     Place { supply: u8 },

@@ -15,7 +15,7 @@ pub const CONTENTS: usize = 20;
 pub const RUN: usize = 5;
 
 // One run: its ends and its state.
-#[derive(Drop)]
+#[derive(Clone, Copy)]
 pub struct Run {
     pub u: usize,
     pub v: usize,
@@ -23,7 +23,7 @@ pub struct Run {
 }
 
 // What a look at a form's fields finds.
-#[derive(Drop)]
+#[derive(Clone, Copy)]
 pub enum Checked {
     Sound,
     Unsound { number: u16, place: u16 },

@@ -8,7 +8,7 @@ ghost use Rattle.wirings.specs.Pieces.{pieces, stock, fed_pieces};
 ghost use Rattle.pieces.specs.Holds.{at, Holds, Ended, labels_of, Opens};
 
 // The labels that chosen runs give, and the first of these runs whose ends earlier ones join already (their number where none is).
-#[derive(Drop)]
+#[derive(Clone, Copy)]
 pub struct Found {
     pub labels: [u16; 256],
     pub closing: usize,

@@ -11,7 +11,7 @@ use answer::Range;
 use layout::{CONTENTS, Checked, RUN, word};
 
 // A form, with its numbers of places and runs and line four; or refused, with number and place.
-#[derive(Drop)]
+#[derive(Clone, Copy)]
 pub enum Reading {
     Form {
         places: usize,

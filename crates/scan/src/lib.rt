@@ -7,7 +7,7 @@ ghost use Rattle.pieces.specs.Holds.{Fits};
 ghost use Rattle.scan.specs.Scans.{Scans, Flags, Merges};
 
 // A byte for each run, 1 where the wiring uses it; and each place's label by these runs.
-#[derive(Drop)]
+#[derive(Clone, Copy)]
 pub struct Wired {
     pub used: [u8; 1024],
     pub labels: [u16; 256],

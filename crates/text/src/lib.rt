@@ -6,7 +6,7 @@ ghost use Rattle.text.specs.Words.{is_blank, Reaches, Word};
 ghost use Rattle.text.specs.Numbers.{Says};
 
 // What a word says as a number.
-#[derive(Drop)]
+#[derive(Clone, Copy)]
 pub enum Decimal {
     Is { value: u16 },
     Above,

@@ -8,7 +8,7 @@ use answer::Answer;
 
 // An answer, as C is handed it: number 0 is accepted, and what does not apply is 0.
 #[repr(C)]
-#[derive(Drop)]
+#[derive(Clone, Copy)]
 pub struct Reply {
     pub number: u16,
     pub place: u16,

@@ -10,7 +10,7 @@ use answer::Range;
 use layout::{CONTENTS, Checked, RUN};
 
 // Written, with the length of the form; or refused, with number and place.
-#[derive(Drop)]
+#[derive(Clone, Copy)]
 pub enum Writing {
     Written { length: usize },
     Refused { number: u16, place: u16 },
