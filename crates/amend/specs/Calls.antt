@@ -22,13 +22,16 @@ use Rattle.layout.specs.Layout.{sizes, runs_in, state_of, Fields, length_of, ima
 use Rattle.layout.proofs.Laws.{whole_runs}
 use Rattle.layout.specs.Rows.{fields_of, sound_rows}
 use Rattle.wirings.specs.Alike.{Alike}
-use Rattle.wirings.specs.Amendments.{Amendment, pin, strike, narrow, WellFormed, Obeys, Clash, amended, clash_none}
+use Rattle.wirings.specs.Amendments.{Amendment, pin, strike, narrow, WellFormed, Obeys, Clash, amended}
+use Rattle.wirings.proofs.Amendments.{clash_none}
 use Rattle.wirings.specs.Confirmed.{Mark, Confirmed}
 use Rattle.wirings.specs.Keyed.{Keys, Keyed, done, then}
-use Rattle.wirings.specs.Limits.{counts_alike}
+use Rattle.wirings.proofs.Limits.{counts_alike}
 use Rattle.wirings.specs.OfForm.{order_of, order_sound}
-use Rattle.wirings.specs.Same.{Equal, confirmed_one}
-use Rattle.wirings.specs.Standing.{Outcome, settled}
+use Rattle.wirings.specs.Same.{Equal}
+use Rattle.wirings.proofs.Same.{confirmed_one}
+use Rattle.wirings.specs.Standing.{Outcome}
+use Rattle.wirings.proofs.Standing.{settled}
 use Rattle.wirings.specs.Wiring.{Order, Wiring}
 
 -- ---- states written over states

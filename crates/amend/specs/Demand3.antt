@@ -17,13 +17,17 @@ use Rattle.layout.proofs.Image.{fields_whole, fields_back, read_back}
 use Rattle.layout.specs.Layout.{sizes, runs_in, Fields, image, over}
 use Rattle.layout.proofs.Laws.{whole_runs}
 use Rattle.layout.specs.Rows.{fields_of, read_rows, sound_rows}
-use Rattle.wirings.specs.Alike.{alike_sym}
-use Rattle.wirings.specs.Amendments.{Amendment, WellFormed, AllWellFormed, Obeys, ObeysAll, Permuted, written_in, amended_alike, amendment_cuts, clash_none, all_well_formed_as, obeys_all_as, obeys_permuted, well_formed_permuted, written_wirings}
-use Rattle.wirings.specs.Amendments.{written_alike as written_in_alike, written_sound as written_in_sound}
-use Rattle.wirings.specs.Keyed.{Keyed, done, then, keyed_alike, keyed_stands, keyed_wirings, keyed_same, stops}
+use Rattle.wirings.proofs.Alike.{alike_sym}
+use Rattle.wirings.specs.Amendments.{Amendment, WellFormed, AllWellFormed, Obeys, ObeysAll, Permuted, written_in}
+use Rattle.wirings.proofs.Amendments.{amended_alike, amendment_cuts, clash_none, all_well_formed_as, obeys_all_as, obeys_permuted, well_formed_permuted, written_wirings}
+use Rattle.wirings.proofs.Amendments.{written_alike as written_in_alike, written_sound as written_in_sound}
+use Rattle.wirings.specs.Keyed.{Keyed, done, then}
+use Rattle.wirings.proofs.Keyed.{keyed_alike, keyed_stands, keyed_wirings, keyed_same, stops}
 use Rattle.wirings.specs.OfForm.{order_of, order_sound}
-use Rattle.wirings.specs.Same.{Agree, same_confirmation, confirmed}
-use Rattle.wirings.specs.Standing.{Outcome, Gives, Stands, alike_trans, gives_confirmed}
+use Rattle.wirings.specs.Same.{Agree, confirmed}
+use Rattle.wirings.proofs.Same.{same_confirmation}
+use Rattle.wirings.specs.Standing.{Outcome, Gives, Stands}
+use Rattle.wirings.proofs.Standing.{alike_trans, gives_confirmed}
 use Rattle.wirings.specs.Theorem1.{order_rows}
 use Rattle.wirings.specs.Wiring.{Order, Wiring, Lawful}
 

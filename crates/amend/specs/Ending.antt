@@ -19,9 +19,10 @@ use Rattle.layout.proofs.Image.{length_image, fields_back}
 use Rattle.layout.specs.Layout.{sizes, runs_in, Fields, length_of, image}
 use Rattle.layout.proofs.Laws.{fields_sound, whole_runs}
 use Rattle.layout.specs.Rows.{fields_of, read_rows, sound_rows}
-use Rattle.wirings.specs.Amendments.{Amendment, WellFormed, Clash, amended_alike}
+use Rattle.wirings.specs.Amendments.{Amendment, WellFormed, Clash}
+use Rattle.wirings.proofs.Amendments.{amended_alike}
 use Rattle.wirings.specs.OfForm.{order_of}
-use Rattle.wirings.specs.Standing.{alike_trans}
+use Rattle.wirings.proofs.Standing.{alike_trans}
 
 module _ (s : List ℕ) (x y z : ℕ) {lent small : Lent} (short : Shorter lent small) {left : Left} {k : Counts} (p : Filters s small left) (e : left.reply ≡ accepted k) where
   clears : Clears (filter_rows s lent)

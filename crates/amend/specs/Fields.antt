@@ -9,7 +9,8 @@ use Rattle.layout.specs.Layout.{sizes, runs_in, state_of, Fields}
 use Rattle.layout.proofs.Laws.{whole_runs}
 use Rattle.layout.specs.Rows.{sound_rows}
 use Rattle.wirings.specs.Alike.{Alike}
-use Rattle.wirings.specs.Amended.{put, put_here, put_there, marked_sound}
+use Rattle.wirings.specs.Amended.{put}
+use Rattle.wirings.proofs.Amended.{put_here, put_there, marked_sound}
 use Rattle.wirings.specs.Amendments.{Amendment, pin, strike, narrow, WellFormed, amended}
 use Rattle.wirings.specs.OfForm.{order_of, order_sound}
 

@@ -13,9 +13,9 @@ use Rattle.filter.specs.Restated.{still_sound, same_wirings}
 use Rattle.layout.specs.Layout.{sizes, runs_in, Fields}
 use Rattle.layout.proofs.Laws.{fields_sound}
 use Rattle.layout.specs.Rows.{fields_of, read_rows, sound_rows}
-use Rattle.wirings.specs.Amendments.{well_formed_as}
+use Rattle.wirings.proofs.Amendments.{well_formed_as}
 use Rattle.wirings.specs.OfForm.{order_of, order_sound}
-use Rattle.wirings.specs.Same.{confirmed_one}
+use Rattle.wirings.proofs.Same.{confirmed_one}
 
 module _ (f : Fields) (sound : Clears (sound_rows sizes f)) (x y z : ℕ) (lent : Lent) where
   -- the confirmed form with the amendment is one

@@ -8,7 +8,7 @@ use Rattle.answer.specs.Laws.{accepted_one}
 use Rattle.answer.specs.Reply.{accepted, Counts}
 use Rattle.filter.specs.Filtered.{Lent, Left}
 use Rattle.layout.specs.Layout.{sizes, runs_in, Fields}
-use Rattle.wirings.specs.Amended.{put_here}
+use Rattle.wirings.proofs.Amended.{put_here}
 use Rattle.wirings.specs.Amendments.{pin, strike}
 use Rattle.wirings.specs.OfForm.{order_of}
 

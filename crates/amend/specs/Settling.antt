@@ -14,11 +14,13 @@ use Rattle.layout.proofs.Image.{fields_whole, read_back}
 use Rattle.layout.specs.Layout.{sizes, runs_in, Fields, image}
 use Rattle.layout.proofs.Laws.{fields_sound, whole_runs, counts}
 use Rattle.layout.specs.Rows.{fields_of, read_rows, sound_rows}
-use Rattle.wirings.specs.Amendments.{Amendment, pin, strike, narrow, WellFormed, Obeys, Clash, amended, amended_alike, amendment_cuts, clash_none, well_formed_as, obeys_as}
+use Rattle.wirings.specs.Amendments.{Amendment, pin, strike, narrow, WellFormed, Obeys, Clash, amended}
+use Rattle.wirings.proofs.Amendments.{amended_alike, amendment_cuts, clash_none, well_formed_as, obeys_as}
 use Rattle.wirings.specs.Confirmed.{Confirmed}
 use Rattle.wirings.specs.OfForm.{order_of}
-use Rattle.wirings.specs.Same.{Agree, agree_sym, confirmed}
-use Rattle.wirings.specs.Standing.{alike_trans, agree_same}
+use Rattle.wirings.specs.Same.{Agree, confirmed}
+use Rattle.wirings.proofs.Same.{agree_sym}
+use Rattle.wirings.proofs.Standing.{alike_trans, agree_same}
 use Rattle.wirings.specs.Theorem1.{order_rows}
 use Rattle.wirings.specs.Wiring.{Order, Wiring, Lawful}
 

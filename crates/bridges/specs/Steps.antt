@@ -12,7 +12,8 @@ use Rattle.bridges.specs.Supplied.{Feeding, feeding_start, feeding_up, feeding_p
 use Rattle.layout.specs.Layout.{sizes, end_u, end_v, Shows}
 use Rattle.pieces.specs.Holds.{at, Fits}
 use Rattle.pieces.specs.Laws.{zeros}
-use Rattle.wirings.specs.Alike.{Alike, alike_sym, joined_as, fed_as}
+use Rattle.wirings.specs.Alike.{Alike}
+use Rattle.wirings.proofs.Alike.{alike_sym, joined_as, fed_as}
 use Rattle.wirings.specs.Limits.{Unstruck}
 use Rattle.wirings.specs.Marks.{Others, Bridge, bypassed}
 use Rattle.wirings.specs.Marks.{supplied as both_fed, bare as one_bare}

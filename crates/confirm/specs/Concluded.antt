@@ -16,8 +16,10 @@ use Rattle.pieces.specs.Holds.{at}
 use Rattle.scan.specs.Scans.{Scanned, Scans}
 use Rattle.wirings.specs.Chosen.{flagged}
 use Rattle.wirings.specs.Confirmed.{Confirmed, Lowest, Highest, SegmentNumber}
-use Rattle.wirings.specs.First.{top, lowest, highest, first_wiring, segment_number}
-use Rattle.wirings.specs.Limits.{fixed_runs, counts_alike}
+use Rattle.wirings.specs.First.{top}
+use Rattle.wirings.proofs.First.{lowest, highest, first_wiring, segment_number}
+use Rattle.wirings.specs.Limits.{fixed_runs}
+use Rattle.wirings.proofs.Limits.{counts_alike}
 use Rattle.wirings.specs.OfForm.{order_of, order_sound, order_line, Described}
 use Rattle.wirings.specs.Pieces.{pieces, stock, fed_pieces}
 use Rattle.wirings.specs.Scan.{Goes}

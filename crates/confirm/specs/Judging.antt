@@ -15,7 +15,8 @@ use Rattle.wirings.specs.Chosen.{chosen, flagged, chosen_used, used_chosen}
 use Rattle.wirings.specs.Counted.{stocked, fed_stocked, stocked_fed}
 use Rattle.wirings.specs.Joined.{joined_mono, fed_mono}
 use Rattle.wirings.specs.Labels.{labels, label, label_le, joined_same, same_joined}
-use Rattle.wirings.specs.Limits.{fixed_runs, unstruck_runs, unstruck_in, in_unstruck}
+use Rattle.wirings.specs.Limits.{fixed_runs, unstruck_runs}
+use Rattle.wirings.proofs.Limits.{unstruck_in, in_unstruck}
 use Rattle.wirings.specs.OfForm.{order_of, order_sound, chosen_same}
 use Rattle.wirings.specs.Pieces.{pieces, stock, fed_pieces, pieces_same, stock_same, fed_same}
 use Rattle.wirings.specs.Theorem1.{Opens, Reached}

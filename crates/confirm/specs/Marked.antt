@@ -6,7 +6,8 @@ use Rattle.wirings.specs.Confirmed.{Always, Some, Mark, kept, struck, pinned, st
 use Rattle.wirings.specs.Counted.{Sound, stocked}
 use Rattle.wirings.specs.Labels.{label}
 use Rattle.wirings.specs.Limits.{fixed_runs, least, most}
-use Rattle.wirings.specs.Marks.{Bridge, bypassed, supplied, bare, never_joined, never_full, some_free, some_spare, free_none, pinned_bare, pinned_fed, free_fed}
+use Rattle.wirings.specs.Marks.{Bridge, bypassed, supplied, bare}
+use Rattle.wirings.proofs.Marks.{never_joined, never_full, some_free, some_spare, free_none, pinned_bare, pinned_fed, free_fed}
 use Rattle.wirings.specs.Theorem1.{Meets}
 use Rattle.wirings.specs.Wiring.{Order}
 

@@ -13,7 +13,8 @@ use Rattle.layout.specs.Rows.{sound_rows}
 use Rattle.pieces.specs.Holds.{at}
 use Rattle.wirings.specs.Chosen.{flagged}
 use Rattle.wirings.specs.OfForm.{order_of, order_sound}
-use Rattle.wirings.specs.Same.{Equal, confirmed_one}
+use Rattle.wirings.specs.Same.{Equal}
+use Rattle.wirings.proofs.Same.{confirmed_one}
 
 module _ (f : Fields) (sound : Clears (sound_rows sizes f)) {verdict verdict' : Checked} {marks marks' used used' labels labels' : List ℕ} {low low' high high' struck struck' pinned pinned' : ℕ}
     (x : Confirms f verdict marks used labels low high struck pinned) (y : Confirms f verdict' marks' used' labels' low' high' struck' pinned') where

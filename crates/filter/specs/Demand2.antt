@@ -15,7 +15,8 @@ use Rattle.wirings.specs.Chosen.{true_not_false}
 use Rattle.wirings.specs.Confirmed.{Never, Always, Mark, kept, struck, pinned, stays, Lowest, Highest}
 use Rattle.wirings.specs.Counted.{Sound}
 use Rattle.wirings.specs.OfForm.{order_of, order_sound}
-use Rattle.wirings.specs.Theorem1.{order_rows, meets_of}
+use Rattle.wirings.specs.Theorem1.{order_rows}
+use Rattle.wirings.proofs.Theorem1.{meets_of}
 use Rattle.wirings.specs.Wiring.{Order, Wiring, Lawful}
 
 -- ---- confirmed exactly if a lawful wiring exists

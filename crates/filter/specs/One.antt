@@ -12,7 +12,7 @@ use Rattle.layout.specs.Layout.{sizes, runs_in, Fields, image, over}
 use Rattle.layout.proofs.Laws.{fields_sound}
 use Rattle.layout.specs.Rows.{fields_of, read_rows, sound_rows}
 use Rattle.wirings.specs.OfForm.{order_of, order_sound}
-use Rattle.wirings.specs.Same.{confirmed_one}
+use Rattle.wirings.proofs.Same.{confirmed_one}
 
 pub restated_same : (f g : ℕ → ℕ) (k : ℕ) (runs : List ℕ) → ((r : ℕ) → r < k → f r ≡ g r) → restated f k runs ≡ restated g k runs
 unfolding restated

@@ -18,12 +18,13 @@ use Rattle.wirings.specs.Counted.{Sound}
 use Rattle.wirings.specs.Labels.{moved, labels}
 use Rattle.wirings.specs.OfForm.{order_of, order_sound}
 use Rattle.wirings.specs.Pieces.{pieces, stock, fed_pieces}
-use Rattle.wirings.specs.Same.{confirmed_one}
-use Rattle.wirings.specs.Solved.{all_below, first_bad, count_of, judged, mark_of, scanned}
+use Rattle.wirings.proofs.Same.{confirmed_one}
+use Rattle.wirings.proofs.Solved.{all_below, first_bad, count_of, judged, mark_of, scanned}
 use Rattle.wirings.specs.Tally.{when, tally}
-use Rattle.wirings.specs.Theorem1.{member}
+use Rattle.wirings.proofs.Theorem1.{member}
 use Rattle.wirings.specs.Wiring.{Order, Wiring, Lawful}
-use Rattle.wirings.specs.Worked.{Confirmation, RightFor, confirmed_by, outcome_right}
+use Rattle.wirings.specs.Worked.{Confirmation, RightFor}
+use Rattle.wirings.proofs.Worked.{confirmed_by, outcome_right}
 
 -- ---- refusing each form: not one that has a lawful wiring
 pub not_refusing : (s : List ℕ) (lent : Lent) (left : Left) → Clears (read_rows sizes s) → Room (fields_of sizes s) lent → (w : Wiring) → Lawful (order_of (fields_of sizes s)) w

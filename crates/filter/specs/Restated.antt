@@ -17,10 +17,11 @@ use Rattle.layout.proofs.Laws.{places_length, runs_count, fields_sound, whole_ru
 use Rattle.layout.specs.Rows.{Numbers, Place, Good, fields_of, read_rows, sound_rows}
 use Rattle.wirings.specs.Alike.{Alike}
 use Rattle.wirings.specs.Confirmed.{Confirmed}
-use Rattle.wirings.specs.Limits.{counts_one}
+use Rattle.wirings.proofs.Limits.{counts_one}
 use Rattle.wirings.specs.OfForm.{order_of, order_sound}
-use Rattle.wirings.specs.Same.{Agree, confirmed_sound, keeps}
-use Rattle.wirings.specs.Standing.{agree_trans, agree_same}
+use Rattle.wirings.specs.Same.{Agree}
+use Rattle.wirings.proofs.Same.{confirmed_sound, keeps}
+use Rattle.wirings.proofs.Standing.{agree_trans, agree_same}
 use Rattle.wirings.specs.Wiring.{Wiring}
 
 -- ---- bytes that are no states are kept

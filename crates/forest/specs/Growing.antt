@@ -6,7 +6,8 @@ use Rattle.forest.specs.Grown.{Reached, Grown}
 use Rattle.forest.specs.Links.{Entry, entry_leads, entry_below, Before, Linked}
 use Rattle.pieces.specs.Holds.{at}
 use Rattle.wirings.specs.Joined.{leads_back}
-use Rattle.wirings.specs.Limits.{Unstruck, counts_more, counts_most, counts_less}
+use Rattle.wirings.specs.Limits.{Unstruck}
+use Rattle.wirings.proofs.Limits.{counts_more, counts_most, counts_less}
 use Rattle.wirings.specs.Wiring.{Order, Leads, Counts, none}
 
 -- ---- the places so far

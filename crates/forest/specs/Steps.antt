@@ -11,7 +11,8 @@ use Rattle.layout.specs.Layout.{sizes, end_u, end_v, Shows}
 use Rattle.pieces.specs.Holds.{at, Fits}
 use Rattle.pieces.specs.Laws.{zeros}
 use Rattle.wirings.specs.Joined.{leads_back}
-use Rattle.wirings.specs.Limits.{Unstruck, counts_zero, counts_all}
+use Rattle.wirings.specs.Limits.{Unstruck}
+use Rattle.wirings.proofs.Limits.{counts_zero, counts_all}
 use Rattle.wirings.specs.Wiring.{Order, Leads, along, back, here, one}
 
 pub less_one : (n y i : ℕ) → n + y ≡ i → y ≡ i - n

@@ -1,5 +1,5 @@
 // The fields that the lines of a text give, as the writer takes them.
-ghost use Rattle.std.specs.Prelude.{◌≡◌, ◌≤◌, length};
+ghost use Rattle.std.specs.Prelude.{◌≡◌, ℕ, ◌≤◌, ◌<◌, ◌≢◌, length, slice_index};
 ghost use Rattle.items.specs.Within.{Within, Stays, Fits};
 
 use crate::{Fault, Item, read};
@@ -140,6 +140,22 @@ fn without_return(line: &[u8]) -> &[u8] {
     line
 }
 
+// Where the line that begins at `at` ends: at the first line feed from there on, or else at the text's end.
+fn line_end(text: &[u8], at: usize) -> usize
+    requires { at ≤ length text.now }
+    ensures from { at ≤ result }
+    ensures within { result ≤ length text.now }
+    ensures before { (k : ℕ) → at ≤ k → k < result → slice_index text.now k ≢ 10 }
+    ensures found { result < length text.now → slice_index text.now result ≡ 10 }
+{
+    for i in at..text.len() {
+        if text[i] == b'\n' {
+            return i;
+        }
+    }
+    text.len()
+}
+
 // What the lines have given at the text's end; line is the one past the last.
 fn finished(had: SoFar, line: usize) -> Gathered
     requires { Within had }
@@ -173,7 +189,7 @@ pub fn gather(text: &[u8], places: &mut [u8], runs: &mut [u8]) -> Gathered
     let mut line = 1;
     let mut at = 0;
     while at < text.len() {
-        let end = bytes::scan::find(text, at, text.len(), b'\n');
+        let end = line_end(text, at);
         let item = read(without_return(&text[at..end]));
         let step = taken(item, so_far, places, runs);
         match step {

@@ -77,8 +77,8 @@ pub fn find(runs: &[u8], flags: &[u8]) -> Found
 
 // For each label 1 where its piece holds a supply, else 0.
 pub fn supplied(labels: [u16; 256], places: &[u8]) -> [u8; 256]
-    requires places_len_bound { (length places.now ≤ 256) × ((x : ℕ) → x < 256 → at labels x < 256) }
-    requires by_index { (x : ℕ) → get_or places.now x 0 ≤ 1 }
+    requires small { (length places.now ≤ 256) × ((x : ℕ) → x < 256 → at labels x < 256) }
+    requires bits { (x : ℕ) → get_or places.now x 0 ≤ 1 }
     ensures { Holds (λ x. min 1 (stock (length places.now) (at places.now) (at labels) x)) result }
 {
     let mut fed = [0u8; 256];
@@ -111,8 +111,8 @@ pub fn count(labels: [u16; 256], n: usize) -> usize
 
 // How many of them hold a supply, by what `supplied` says.
 pub fn count_supplied(labels: [u16; 256], fed: [u8; 256], places: &[u8]) -> usize
-    requires places_len_bound { length places.now ≤ 256 }
-    requires holds { Holds (λ x. min 1 (stock (length places.now) (at places.now) (at labels) x)) fed }
+    requires small { length places.now ≤ 256 }
+    requires supplied { Holds (λ x. min 1 (stock (length places.now) (at places.now) (at labels) x)) fed }
     ensures { result ≡ fed_pieces (length places.now) (at places.now) (at labels) }
 {
     let mut k: usize = 0;

@@ -51,7 +51,7 @@ fn listed(image: &[u8]) -> bool
 
 // Number 3: whether the offsets and the length are those of n places and m runs.
 fn laid(image: &[u8], n: usize, m: usize) -> bool
-    requires in_bounds { 20 ≤ length image.now }
+    requires contents_there { 20 ≤ length image.now }
     requires numbers { Numbers n m }
     ensures { Decides (Laid sizes image.now n m) result }
 {

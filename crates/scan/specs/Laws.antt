@@ -11,7 +11,8 @@ use Rattle.pieces.specs.Laws.{holds_same, zeros}
 use Rattle.wirings.specs.Chosen.{chosen, flagged}
 use Rattle.wirings.specs.Counted.{stocked}
 use Rattle.wirings.specs.Labels.{In, moved, labels, label, label_le, label_root}
-use Rattle.wirings.specs.Limits.{fixed_runs, fixed_in, in_fixed}
+use Rattle.wirings.specs.Limits.{fixed_runs}
+use Rattle.wirings.proofs.Limits.{fixed_in, in_fixed}
 use Rattle.wirings.specs.OfForm.{Described, States, chosen_same}
 use Rattle.wirings.specs.Pieces.{stock, stock_same, stock_low, stock_kept, stock_gone}
 use Rattle.wirings.specs.Scan.{Scan, Verdict, closed, full, free, spends, Goes, begin, pass, look}

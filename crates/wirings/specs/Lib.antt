@@ -17,7 +17,6 @@ pub mod First
 pub mod OfForm
 pub mod Same
 pub mod Loops
-pub mod Solved
 pub mod Worked
 pub mod Standing
 pub mod Amendments

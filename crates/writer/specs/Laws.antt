@@ -1,5 +1,5 @@
 -- How the check of the fields, the look at the buffer and the copying settle what the writer leaves; and that nothing else is allowed.
-use Rattle.std.specs.Prelude.{ℕ, ◌+◌, ◌-◌, ◌*◌, ◌≤◌, List, [], ◌++◌, ◌≡◌, refl, length}
+use Rattle.std.specs.Prelude.{ℕ, ◌+◌, ◌*◌, ◌≤◌, List, [], ◌++◌, ◌≡◌, refl, length}
 use Rattle.std.proofs.Common.{sym, ap, ap₂, ◌∙◌}
 use Rattle.answer.specs.Laws.{not_refused, settled_one, refuses, passes, ends, onward, cleared}
 use Rattle.answer.specs.Reply.{Reply, accepted, refused}

@@ -1,4 +1,4 @@
-use Rattle.std.proofs.Common.{◌-◌, arith, rules}
+use Rattle.std.proofs.Common.{arith, rules}
 use Rattle.answer.specs.Laws.{going_none, going_more, found_here, found_none}
 use Rattle.layout.proofs.first_bad_place.Goals as goal
 

@@ -1,4 +1,4 @@
-use Rattle.std.proofs.Common.{◌-◌, rules}
+use Rattle.std.proofs.Common.{rules}
 use Rattle.answer.specs.Laws.{going_none, going_more, found_here, found_none, decided, denied}
 use Rattle.layout.proofs.first_bad_run.Goals as goal
 

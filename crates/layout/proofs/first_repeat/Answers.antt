@@ -1,4 +1,4 @@
-use Rattle.std.proofs.Common.{◌-◌, arith, rules}
+use Rattle.std.proofs.Common.{arith, rules}
 use Rattle.answer.specs.Laws.{going_more, found_here}
 use Rattle.layout.proofs.first_repeat.Goals as goal
 use Rattle.layout.proofs.first_repeat.Goals.{then-old-new+else-old-new-2, else-old-new}

@@ -1,4 +1,4 @@
-use Rattle.std.proofs.Common.{◌-◌, arith, rules}
+use Rattle.std.proofs.Common.{arith, rules}
 use Rattle.text.specs.Laws.{saying_none, saying_more, says_above, says_is}
 use Rattle.text.proofs.number.Goals as goal
 

@@ -1,4 +1,4 @@
-use Rattle.std.proofs.Common.{◌-◌, sym, ◌∙◌, rules}
+use Rattle.std.proofs.Common.{sym, ◌∙◌, rules}
 use Rattle.text.specs.Laws.{unlike, alike, going_none, going_more, reached, reached_end}
 use Rattle.text.proofs.skip.Goals as goal
 

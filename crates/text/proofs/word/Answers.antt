@@ -1,4 +1,4 @@
-use Rattle.std.proofs.Common.{◌-◌, rules}
+use Rattle.std.proofs.Common.{rules}
 use Rattle.text.specs.Laws.{one_on, word_at}
 use Rattle.text.specs.Words.{first}
 use Rattle.text.proofs.word.Goals as goal

@@ -1,0 +1,12 @@
+pub mod Limits
+pub mod Theorem1
+pub mod Alike
+pub mod Amended
+pub mod Marks
+pub mod First
+pub mod Same
+pub mod Solved
+pub mod Worked
+pub mod Standing
+pub mod Amendments
+pub mod Keyed
