@@ -1,5 +1,5 @@
 -- One turn of each loop of the routine, and what the parts give together.
-use Rattle.std.specs.Prelude.{ℕ, ◌+◌, ◌-◌, ◌≤◌, ◌<◌, List, ◌↔◌, ◌⊎◌, ◌≡◌, length, set, replicate}
+use Rattle.std.specs.Prelude.{ℕ, ◌+◌, ◌-◌, ◌≤◌, ◌<◌, List, ◌↔◌, ◌≡◌, length, set, replicate}
 use Rattle.std.proofs.Common.{⊎_elim, sym, ap, subst, ◌∙◌, length-set, get_or-set_same, get_or-set_other, arith}
 use Rattle.std.proofs.lemmas.List.{length-replicate}
 use Rattle.std.proofs.Math.Decide.{ℕ_discrete, dec_lt}
@@ -17,7 +17,7 @@ use Rattle.wirings.proofs.Alike.{alike_sym, joined_as, fed_as}
 use Rattle.wirings.specs.Limits.{Unstruck}
 use Rattle.wirings.specs.Marks.{Others, Bridge, bypassed}
 use Rattle.wirings.specs.Marks.{supplied as both_fed, bare as one_bare}
-use Rattle.wirings.specs.Wiring.{Order, along, Joined, here, on, Fed, one}
+use Rattle.wirings.specs.Wiring.{Order, along, Joined, here, on, Fed}
 
 -- ---- the kinds that the places tell
 module _ {via passed fed : List ℕ} {m : ℕ} where

@@ -40,7 +40,7 @@ pub fn kinds(places: &[u8], runs: &[u8], states: [u8; 1024], m: usize) -> [u8; 1
 // Climbs from two places to where their ways meet, always from the one that came later, and marks the places passed.
 fn climb(rank: &[u16; 256], up: &[u16; 256], passed: &mut [u8; 256], u: usize, v: usize)
     requires climbable { Climbable rank.now up.now u v }
-    requires passed_len { length passed.old ≡ 256 }
+    requires size { length passed.old ≡ 256 }
     ensures { Climbs rank.now up.now u v passed.old passed.new }
 {
     let mut a = u;

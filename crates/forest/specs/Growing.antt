@@ -8,7 +8,7 @@ use Rattle.pieces.specs.Holds.{at}
 use Rattle.wirings.specs.Joined.{leads_back}
 use Rattle.wirings.specs.Limits.{Unstruck}
 use Rattle.wirings.proofs.Limits.{counts_more, counts_most, counts_less}
-use Rattle.wirings.specs.Wiring.{Order, Leads, Counts, none}
+use Rattle.wirings.specs.Wiring.{Order, Leads, Counts}
 
 -- ---- the places so far
 pub record Placed (o : Order) (order rank up via : List ℕ) (count : ℕ) : Type 0 where

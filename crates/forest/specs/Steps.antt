@@ -1,5 +1,5 @@
 -- One turn of each loop of the growth.
-use Rattle.std.specs.Prelude.{ℕ, ◌+◌, ◌-◌, ◌*◌, ◌/◌, ◌≤◌, ◌<◌, List, ◌⊎◌, ◌≡◌, refl, length, set, replicate}
+use Rattle.std.specs.Prelude.{ℕ, ◌+◌, ◌-◌, ◌*◌, ◌/◌, ◌≤◌, ◌<◌, List, ◌≡◌, refl, length, set, replicate}
 use Rattle.std.proofs.Common.{inl, inr, ⊎_elim, sym, ap, subst, ◌∙◌, get_or-set_same, arith}
 use Rattle.std.proofs.lemmas.List.{length-replicate}
 use Rattle.std.proofs.Math.Decide.{dec_lt}
@@ -13,7 +13,7 @@ use Rattle.pieces.specs.Laws.{zeros}
 use Rattle.wirings.specs.Joined.{leads_back}
 use Rattle.wirings.specs.Limits.{Unstruck}
 use Rattle.wirings.proofs.Limits.{counts_zero, counts_all}
-use Rattle.wirings.specs.Wiring.{Order, Leads, along, back, here, one}
+use Rattle.wirings.specs.Wiring.{Order, Leads, along, back}
 
 pub less_one : (n y i : ℕ) → n + y ≡ i → y ≡ i - n
 less_one n y i e = omega arith

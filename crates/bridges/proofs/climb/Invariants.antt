@@ -1,0 +1,12 @@
+use Rattle.std.proofs.Common.{ℕ, ◌+◌, ◌<◌, ◌≡◌, length}
+use Rattle.bridges.specs.Climbed.{Climb}
+use Rattle.bridges.specs.Routine.{Crossed}
+use Rattle.pieces.specs.Holds.{at}
+use Rattle.wirings.specs.Wiring.{Order}
+use Rattle.bridges.proofs.climb.Given as goal
+
+abbrev pub invariant-loop-a : goal.invariant-loop-a
+invariant-loop-a l = (length l.passed ≡ 256) × (l.a < 256) × (l.b < 256) × ((o : Order) (via : ℕ → ℕ) → Crossed l.rank l.up l.u l.v o via → Climb o (at l.rank) (at l.up) via l.u l.v l.initial.passed l.passed l.a l.b)
+
+abbrev pub decreases-loop-a : goal.decreases-loop-a
+decreases-loop-a l = at l.rank l.a + at l.rank l.b
