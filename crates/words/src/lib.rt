@@ -1,8 +1,9 @@
 // What a program's words say: files to open or to write, and amendments.
 #![tactic(auto)]
 
-ghost use Rattle.std.specs.Prelude.{◌≡◌, ◌+◌, ◌≤◌, ◌<◌, min, length, take, IfSome};
+ghost use Rattle.std.specs.Prelude.{◌≡◌, ◌+◌, ◌≤◌, ◌<◌, min, length, take, IfSome, IsTrue, ◌↔◌};
 ghost use Rattle.words.specs.Length.{words_in};
+ghost use Rattle.words.specs.Said.{IsWord, NumberAt, RunAt, NarrowingAt, Means};
 
 use std::alloc::AllocError;
 use std::env::{Env, FillError};
@@ -150,24 +151,38 @@ pub fn asked(words: &[Vec<u8>]) -> Request {
 // What is said from word i on.
 pub fn said(words: &[Vec<u8>], i: usize) -> Meaning
     requires { i < length words.now }
+    ensures { Means words.now i result }
 {
-    match words[i].as_slice() {
-        b"pin" => of_run(1, words, i),
-        b"strike" => of_run(2, words, i),
-        b"narrow" => narrowing(words, i),
-        b"-o" => {
-            if words.len() - i < 2 {
-                return Meaning::Nothing;
-            }
-            Meaning::File
-        }
-        _ => Meaning::Nothing,
+    if is(words, i, b"pin") {
+        return of_run(1, words, i);
     }
+    if is(words, i, b"strike") {
+        return of_run(2, words, i);
+    }
+    if is(words, i, b"narrow") {
+        return narrowing(words, i);
+    }
+    if is(words, i, b"-o") {
+        if words.len() - i < 2 {
+            return Meaning::Nothing;
+        }
+        return Meaning::File;
+    }
+    Meaning::Nothing
+}
+
+// Whether word i is these bytes.
+fn is(words: &[Vec<u8>], i: usize, bytes: &[u8]) -> bool
+    requires { i < length words.now }
+    ensures { IsTrue result ↔ IsWord words.now i bytes.now }
+{
+    words[i].as_slice() == bytes
 }
 
 // A pin or a strike, its run in the next word.
 fn of_run(kind: u16, words: &[Vec<u8>], i: usize) -> Meaning
     requires { i < length words.now }
+    ensures { RunAt words.now kind (i + 1) result }
 {
     if words.len() - i < 2 {
         return Meaning::Nothing;
@@ -186,6 +201,7 @@ fn of_run(kind: u16, words: &[Vec<u8>], i: usize) -> Meaning
 // A narrowing, its two counts in the next words.
 fn narrowing(words: &[Vec<u8>], i: usize) -> Meaning
     requires { i < length words.now }
+    ensures { NarrowingAt words.now (i + 1) result }
 {
     if words.len() - i < 3 {
         return Meaning::Nothing;
@@ -232,7 +248,9 @@ fn length(meaning: Meaning) -> usize
 }
 
 // The number that word i says. A word of more than 4,096 bytes says none.
-fn number_at(words: &[Vec<u8>], i: usize) -> Decimal {
+fn number_at(words: &[Vec<u8>], i: usize) -> Decimal
+    ensures { NumberAt words.now i result }
+{
     let Some(word) = words.get(i) else {
         return Decimal::Not;
     };
