@@ -1,10 +1,13 @@
 -- What words say, from one of them on.
-use Rattle.std.specs.Prelude.{◌≡◌, ℕ, ◌+◌, ◌≤◌, ◌<◌, ◌⊎◌, List, length, codes, slice_get, IsSomeAnd, Vec}
+use Rattle.std.specs.Prelude.{◌≡◌, ℕ, ◌+◌, ◌≤◌, ◌<◌, ◌⊎◌, List, length, codes, slice_get, IsSomeAnd, Vec, ◌≢◌, min, Bool, true, false}
 use Rattle.text.specs.Numbers.{Says}
 use Rattle.text.specs.declared.Decimal.{Decimal}
 use Rattle.text.specs.declared.Decimal.TheVariants.{Is, Above, Not}
 use Rattle.words.specs.declared.Meaning.{Meaning}
 use Rattle.words.specs.declared.Meaning.TheVariants.{Amendment, File, Nothing}
+use Rattle.words.specs.declared.Request.{Request}
+use Rattle.words.specs.declared.Request.TheVariants.{Keying, Nonsense}
+use Rattle.words.specs.Length.{words_in}
 
 module _ {Z : Type 0} (words : List (Vec ℕ Z)) where
   -- word k is these bytes
@@ -49,3 +52,22 @@ module _ {Z : Type 0} (words : List (Vec ℕ Z)) where
   Means i (Amendment kind first second) = IsAmendment i kind first second
   Means i File = IsFile i
   Means i Nothing = ((kind first second : ℕ) → IsAmendment i kind first second → ⊥) × (IsFile i → ⊥)
+
+-- What all words ask for, read from left to right: from word i on, where so far something was amended or not, and a file was named or not.
+pub data AsksFrom {Z : Type 0} (words : List (Vec ℕ Z)) : ℕ → Bool → ℕ → Request → Type 0 where
+  -- the words end
+  ends : {i file : ℕ} {amended : Bool} → length words ≤ i → AsksFrom words i amended file (Keying amended file)
+  -- nothing is said here
+  says_nothing : {i file : ℕ} {amended : Bool} → i < length words → Means words i Nothing → AsksFrom words i amended file (Nonsense i)
+  -- a second file is named here
+  second_file : {i file : ℕ} {amended : Bool} → i < length words → Means words i File → file ≢ 0 → AsksFrom words i amended file (Nonsense i)
+  -- a file is named here
+  names_file : {i : ℕ} {amended : Bool} {request : Request} → i < length words → Means words i File
+      → AsksFrom words (min (i + words_in File) (length words)) amended (i + 1) request → AsksFrom words i amended 0 request
+  -- something is amended here
+  amends : {i file : ℕ} {amended : Bool} {request : Request} (kind first second : ℕ) → i < length words → Means words i (Amendment kind first second)
+      → AsksFrom words (min (i + words_in (Amendment kind first second)) (length words)) true file request → AsksFrom words i amended file request
+
+-- word 0 is the program's own name
+abbrev pub Asks : {Z : Type 0} → List (Vec ℕ Z) → Request → Type 0
+Asks words request = AsksFrom words 1 false 0 request

@@ -3,7 +3,7 @@
 
 ghost use Rattle.std.specs.Prelude.{◌≡◌, ◌+◌, ◌≤◌, ◌<◌, min, length, take, IfSome, IsTrue, ◌↔◌};
 ghost use Rattle.words.specs.Length.{words_in};
-ghost use Rattle.words.specs.Said.{IsWord, NumberAt, RunAt, NarrowingAt, Means};
+ghost use Rattle.words.specs.Said.{IsWord, NumberAt, RunAt, NarrowingAt, Means, Asks};
 
 use std::alloc::AllocError;
 use std::env::{Env, FillError};
@@ -118,7 +118,9 @@ fn reason(text: &str) -> &str {
 }
 
 // What all words say, the first being word 1.
-pub fn asked(words: &[Vec<u8>]) -> Request {
+pub fn asked(words: &[Vec<u8>]) -> Request
+    ensures { Asks words.now result }
+{
     let count = words.len();
     let mut amended = false;
     let mut file = 0;
