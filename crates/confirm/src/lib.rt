@@ -167,9 +167,9 @@ fn marks(
     least: usize,
     most: usize,
 ) -> [u8; 1024]
-    requires runs_bound { runs_in sizes runs.now ≤ 1024 }
+    requires few { runs_in sizes runs.now ≤ 1024 }
     requires ended { Ended runs.now (runs_in sizes runs.now) }
-    requires by_index { (x : ℕ) → x < 256 → at labels x < 256 }
+    requires labelled { (x : ℕ) → x < 256 → at labels x < 256 }
     ensures { MarkedTo runs.now line.low line.high states labels fed kinds least most (runs_in sizes runs.now) result }
 {
     let m = (runs.len() + (RUN - 1)) / RUN;
@@ -240,7 +240,7 @@ fn conclude(
     requires clears { Clears (sound_rows sizes (record { places = places.now; runs = runs.now; low = line.low; high = line.high })) }
     requires states_of { StatesOf runs.now (runs_in sizes runs.now) states }
     requires judges { Judges (record { places = places.now; runs = runs.now; low = line.low; high = line.high }) judged.verdict judged.labels judged.fed judged.least judged.most }
-    requires verdict_value { judged.verdict ≡ Checked.Sound }
+    requires sound { judged.verdict ≡ Checked.Sound }
     ensures { Confirms (record { places = places.now; runs = runs.now; low = line.low; high = line.high }) result.verdict result.marks result.used result.segments result.line.low result.line.high result.struck result.pinned }
 {
     let m = (runs.len() + (RUN - 1)) / RUN;
@@ -275,8 +275,7 @@ pub fn confirm(places: &[u8], runs: &[u8], line: Range) -> Confirmation
 {
     let states = states(runs, (runs.len() + (RUN - 1)) / RUN);
     let judged = judge(places, runs, line, states);
-    let verdict = judged.verdict;
-    if let Checked::Unsound { number, place } = verdict {
+    if let Checked::Unsound { number, place } = judged.verdict {
         return Confirmation {
             verdict: Checked::Unsound { number, place },
             marks: [0; 1024],

@@ -1,5 +1,5 @@
 -- The ways out of the filter, each as an outcome of the whole table.
-use Rattle.std.specs.Prelude.{ℕ, ◌-◌, ◌≤◌, List, ◌≡◌, refl, ltb, length}
+use Rattle.std.specs.Prelude.{ℕ, ◌≤◌, List, ◌≡◌, refl, ltb, length}
 use Rattle.std.proofs.Common.{sym, ap, subst, ◌∙◌, lt-ltb, le-ltb, arith}
 use Rattle.std.proofs.Math.Decide.{dec_lt}
 use Rattle.answer.specs.declared.Range.{Range}

@@ -4,7 +4,7 @@
 ghost use Rattle.std.specs.Prelude.{◌≡◌, ℕ, ◌*◌, ◌≤◌, length};
 ghost use Rattle.answer.specs.Table.{Decides};
 ghost use Rattle.layout.specs.Layout.{sizes, length_of, over};
-ghost use Rattle.layout.specs.Layout.{image as Layout·image};
+ghost use Rattle.layout.specs.Layout.{image as on_file};
 ghost use Rattle.layout.specs.Rows.{Numbers, fields_of};
 ghost use Rattle.pieces.specs.Holds.{at};
 ghost use Rattle.filter.specs.Filtered.{restated, confirmed_fields, Written, Filters};
@@ -54,8 +54,8 @@ fn write_segments(labels: [u16; 256], n: usize, segments: &mut [u16])
 // Writes the confirmed form: the image with other states, and line four.
 fn write_form(image: &[u8], n: usize, m: usize, marks: [u8; 1024], line: Range, form: &mut [u8])
     requires form { IsForm image.now n m }
-    requires image_in_bounds { length image.now ≤ length form.old }
-    ensures { form.new ≡ over (Layout·image sizes (confirmed_fields (fields_of sizes image.now) (at marks) line.low line.high)) form.old }
+    requires room { length image.now ≤ length form.old }
+    ensures { form.new ≡ over (on_file sizes (confirmed_fields (fields_of sizes image.now) (at marks) line.low line.high)) form.old }
 {
     let runs_at = CONTENTS + n;
     let line_at = runs_at + RUN * m;
@@ -121,15 +121,15 @@ pub fn filter(image: &[u8], form: &mut [u8], wiring: &mut [u8], segments: &mut [
     let runs_at = CONTENTS + n;
     let line_at = runs_at + RUN * m;
     let confirmed = confirm::confirm(&image[CONTENTS..runs_at], &image[runs_at..line_at], line);
-    let verdict = confirmed.verdict;
-    if let Checked::Unsound { number, place } = verdict {
+    if let Checked::Unsound { number, place } = confirmed.verdict {
         return Answer::Refused { number, place };
     }
-    write_all(image, n, m, confirmed, form, wiring, segments);
-    Answer::Accepted {
+    let answer = Answer::Accepted {
         struck: confirmed.struck,
         pinned: confirmed.pinned,
-    }
+    };
+    write_all(image, n, m, confirmed, form, wiring, segments);
+    answer
 }
 
 // Writes the three buffers.
@@ -143,10 +143,10 @@ fn write_all(
     segments: &mut [u16],
 )
     requires form { IsForm image.now n m }
-    requires image_in_bounds { (length image.now ≤ length form.old) × (m ≤ length wiring.old) × (n ≤ length segments.old) }
-    ensures form_after { form.new ≡ over (Layout·image sizes (confirmed_fields (fields_of sizes image.now) (at confirmed.marks) confirmed.line.low confirmed.line.high)) form.old }
-    ensures written { Written (at confirmed.used) m wiring.old wiring.new }
-    ensures written_2 { Written (at confirmed.segments) n segments.old segments.new }
+    requires room { (length image.now ≤ length form.old) × (m ≤ length wiring.old) × (n ≤ length segments.old) }
+    ensures form_after { form.new ≡ over (on_file sizes (confirmed_fields (fields_of sizes image.now) (at confirmed.marks) confirmed.line.low confirmed.line.high)) form.old }
+    ensures wiring_after { Written (at confirmed.used) m wiring.old wiring.new }
+    ensures segments_after { Written (at confirmed.segments) n segments.old segments.new }
 {
     let marks = confirmed.marks;
     let used = confirmed.used;

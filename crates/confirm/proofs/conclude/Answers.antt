@@ -1,0 +1,89 @@
+-- `conclude` puts the confirmation together.
+use Rattle.std.proofs.Common.{ℕ, ◌≡◌, List, ◌-◌, ◌≤◌, min, refl, sym, ap, subst, length, arith}
+use Rattle.answer.specs.declared.Range.{Range}
+use Rattle.confirm.specs.Concluded.{concluded, pieces_few, fed_few}
+use Rattle.confirm.specs.Judged.{Settles}
+use Rattle.confirm.specs.Judging.{fields_fit, labels_below}
+use Rattle.layout.specs.Layout.{sizes, runs_in, Fields}
+use Rattle.pieces.specs.Holds.{at, fits_ended}
+use Rattle.scan.specs.Scans.{Scans}
+use Rattle.wirings.specs.Chosen.{flagged}
+use Rattle.wirings.specs.Confirmed.{Confirmed}
+use Rattle.wirings.specs.Labels.{label}
+use Rattle.wirings.specs.Limits.{fixed_runs, unstruck_runs, least, most}
+use Rattle.wirings.specs.OfForm.{order_of}
+use Rattle.confirm.proofs.conclude.Goals as goal
+use Rattle.confirm.proofs.conclude.Goals.{After-scan-wired}
+
+-- the fields as they came
+abbrev fields : List ℕ → List ℕ → Range → Fields
+fields places runs line = record { places = places; runs = runs; low = line.low; high = line.high }
+
+-- MIN and MAX are at most the number of places
+least_small : (f : Fields) (k : ℕ) → k ≡ least (order_of f) → length f.places ≤ 256 → k ≤ 256
+least_small f k e small = omega (arith, e, pieces_few (length f.places) (label (order_of f) (unstruck_runs (order_of f))), small)
+
+most_small : (f : Fields) (k : ℕ) → k ≡ most (order_of f) → length f.places ≤ 256 → k ≤ 256
+most_small f k e small = omega (arith, e, fed_few (length f.places) (order_of f).supply (label (order_of f) (fixed_runs (order_of f))), small)
+
+pub kinds-kinds-requires : goal.kinds-kinds-requires
+kinds-kinds-requires c =
+    let f = fields c.args.places.now c.args.runs.now c.args.line in let fit = fields_fit f c.requires.clears in
+    fit
+
+pub marks-marks-requires : goal.marks-marks-requires
+marks-marks-requires c =
+    let f = fields c.args.places.now c.args.runs.now c.args.line in let fit = fields_fit f c.requires.clears in
+    record { few = fit.few; ended = fits_ended fit; labelled = labels_below f _ _ c.requires.judges.labelled }
+
+pub overflow_cast-least : goal.overflow_cast-least
+overflow_cast-least c =
+    let f = fields c.args.places.now c.args.runs.now c.args.line in let fit = fields_fit f c.requires.clears in
+    omega (arith, least_small f c.args.judged.least c.requires.judges.lowest fit.small)
+
+pub overflow_cast-most : goal.overflow_cast-most
+overflow_cast-most c =
+    let f = fields c.args.places.now c.args.runs.now c.args.line in let fit = fields_fit f c.requires.clears in
+    omega (arith, most_small f c.args.judged.most c.requires.judges.highest fit.small)
+
+pub overflow_sub-most : goal.overflow_sub-most
+overflow_sub-most c = omega (arith, ap (λ (r : Range). r.high) c.narrowed-narrowed.ensures)
+
+pub scan-wired-requires : goal.scan-wired-requires
+scan-wired-requires c =
+    let f = fields c.args.places.now c.args.runs.now c.args.line in let fit = fields_fit f c.requires.clears in
+    fit
+
+pub count-requires : goal.count-requires
+count-requires c =
+    let f = fields c.args.places.now c.args.runs.now c.args.line in let fit = fields_fit f c.requires.clears in
+    fit.few
+
+pub count-requires-2 : goal.count-requires-2
+count-requires-2 c =
+    let f = fields c.args.places.now c.args.runs.now c.args.line in let fit = fields_fit f c.requires.clears in
+    fit.few
+
+-- the scan had as many joins to spare as MAX is above the confirmed high
+scanned : (c : After-scan-wired)
+    → Scans c.args.places.now c.args.runs.now c.args.states (runs_in sizes c.args.runs.now)
+    (c.args.judged.most - min c.args.line.high c.args.judged.most) c.scan-wired.result.used c.scan-wired.result.labels
+scanned c =
+    subst
+    (λ (r : Range). Scans c.args.places.now c.args.runs.now c.args.states (runs_in sizes c.args.runs.now) (c.args.judged.most - r.high) c.scan-wired.result.used c.scan-wired.result.labels)
+    c.narrowed-narrowed.ensures c.scan-wired.ensures
+
+pub returns : goal.returns
+returns c =
+    let f = fields c.args.places.now c.args.runs.now c.args.line in
+    let j = c.requires.judges in let e = (goal.at.returns c).After-scan-wired in
+    record {
+      settles = subst (Settles (order_of f)) c.requires.sound j.settles;
+      confirmed = λ _.
+          subst (λ (r : Range). Confirmed (order_of f) (at c.marks-marks.result) r.low r.high (flagged c.scan-wired.result.used) (at c.scan-wired.result.labels) c.count.result c.count-2.result)
+          (sym c.narrowed-narrowed.ensures)
+          (concluded f c.requires.clears c.args.states c.requires.states_of c.args.judged.labels c.args.judged.fed c.args.judged.least c.args.judged.most j c.requires.sound
+          c.kinds-kinds.result c.marks-marks.result c.scan-wired.result.used c.scan-wired.result.labels c.count.result c.count-2.result
+          c.kinds-kinds.ensures c.marks-marks.ensures (scanned e) c.count.ensures c.count-2.ensures);
+      bits = λ _. (scanned e (order_of f) (record { n = refl; supply = refl; u = refl; v = refl }) refl (λ r l. sym (c.requires.states_of.says r l))).bits;
+    }
