@@ -1,11 +1,5 @@
 pub mod Amending
 pub mod Fields
-pub mod Settling
 pub mod Writing
-pub mod Ending
-pub mod Laws
-pub mod Rejected
 pub mod Demand1
 pub mod Keying
-pub mod Calls
-pub mod Demand3

@@ -2,7 +2,7 @@
 use Rattle.std.specs.Prelude.{ℕ, min, ◌≤◌, List, [], ◌∷◌, ◌++◌, ◌≡◌}
 use Rattle.std.proofs.Common.{inl, inr, sym, ap, ◌∙◌, arith}
 use Rattle.amend.specs.Amending.{written, Amended, amend_rows, Amends}
-use Rattle.amend.specs.Laws.{amends_one}
+use Rattle.amend.proofs.Laws.{amends_one}
 use Rattle.answer.specs.declared.Answer.{Answer}
 use Rattle.answer.specs.declared.Answer.TheVariants.{Accepted as Yes, Refused as No}
 use Rattle.answer.specs.Laws.{not_refused}

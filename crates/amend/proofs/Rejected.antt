@@ -3,7 +3,7 @@ use Rattle.std.specs.Prelude.{ℕ, ◌+◌, ◌*◌, ◌<◌, List, ◌≡◌, r
 use Rattle.std.proofs.Common.{sym, ap, ◌∙◌, arith}
 use Rattle.amend.specs.Amending.{written, Leaves}
 use Rattle.amend.specs.Fields.{written_states}
-use Rattle.amend.specs.Laws.{leaves_one}
+use Rattle.amend.proofs.Laws.{leaves_one}
 use Rattle.answer.specs.Laws.{accepted_one}
 use Rattle.answer.specs.Reply.{accepted, Counts}
 use Rattle.filter.specs.Filtered.{Lent, Left}

@@ -2,7 +2,7 @@
 use Rattle.std.specs.Prelude.{ℕ, List, ◌≡◌}
 use Rattle.std.proofs.Common.{ap, subst, arith}
 use Rattle.amend.specs.Amending.{Named, Ordered, written, Amended, amend_rows, Leaves, Amends}
-use Rattle.amend.specs.Settling.{says_one, well_formed}
+use Rattle.amend.proofs.Settling.{says_one, well_formed}
 use Rattle.amend.specs.Fields.{written_sound}
 use Rattle.answer.specs.declared.Answer.{Answer}
 use Rattle.answer.specs.Laws.{settled_if, clears_front, fact, clears_back}

@@ -18,7 +18,7 @@ use Rattle.wirings.specs.Amendments.{Amendment, pin, strike, narrow, WellFormed,
 use Rattle.wirings.proofs.Amendments.{amended_alike, amendment_cuts, clash_none, well_formed_as, obeys_as}
 use Rattle.wirings.specs.Confirmed.{Confirmed}
 use Rattle.wirings.specs.OfForm.{order_of}
-use Rattle.wirings.specs.Same.{Agree, confirmed}
+use Rattle.wirings.specs.Same.{Agree}
 use Rattle.wirings.proofs.Same.{agree_sym}
 use Rattle.wirings.proofs.Standing.{alike_trans, agree_same}
 use Rattle.wirings.specs.Theorem1.{order_rows}

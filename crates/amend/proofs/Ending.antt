@@ -1,5 +1,5 @@
 -- From the first filtering to the end: what each call left, and the outcome of the whole.
-use Rattle.std.specs.Prelude.{ℕ, ◌+◌, ◌≤◌, ◌≡◌, length, drop}
+use Rattle.std.specs.Prelude.{ℕ, ◌≤◌, ◌≡◌, length, drop}
 use mathlib.Core.List.{List, ◌++◌, append_assoc}
 use Rattle.std.proofs.Math.Path.{sym, ap}
 use Rattle.std.proofs.Common.{ap₂, subst, ◌∙◌, length-append, length-take, arith}
@@ -7,7 +7,7 @@ use Rattle.std.proofs.Math.ListN.{take}
 use Rattle.std.proofs.Math.Seq.{take_at}
 use Rattle.amend.specs.Amending.{Says, Named, written, WritesIn, unnamed, reversed, clashing, done, Leaves}
 use Rattle.amend.specs.Fields.{written_alike, written_wholes}
-use Rattle.amend.specs.Settling.{Shorter, turned, started, not_named, not_ordered, clashes, unlawful, finished}
+use Rattle.amend.proofs.Settling.{Shorter, turned, started, not_named, not_ordered, clashes, unlawful, finished}
 use Rattle.amend.specs.Writing.{OnFile, on_file}
 use Rattle.answer.specs.Laws.{clears_front}
 use Rattle.answer.specs.Reply.{accepted, refused, Counts}

@@ -2,10 +2,10 @@
 use Rattle.std.specs.Prelude.{ℕ, ◌*◌, List, [], ◌∷◌, ◌↔◌, ◌⊎◌, ◌≡◌, refl, length, take}
 use Rattle.std.proofs.Common.{inl, inr, ⊎_elim, sym, ap, subst, ◌∙◌, arith}
 use Rattle.amend.specs.Amending.{Says, amend_rows, written, Leaves}
-use Rattle.amend.specs.Calls.{Like, over_like, outcome, spoken, written_order, acc, next, next_settled, keys, next_like, next_form, Shows, ends_at, equal_as, shows_one}
+use Rattle.amend.proofs.Calls.{Like, over_like, outcome, spoken, written_order, acc, next, next_settled, keys, next_like, next_form, Shows, ends_at, equal_as, shows_one}
 use Rattle.amend.specs.Fields.{written_wholes, written_places, written_ends, written_alike, written_sound}
 use Rattle.amend.specs.Keying.{SettledForm, Call, Amender, AllOf, Accepts, last, before, MeetsRefusal, here, later, written_all}
-use Rattle.amend.specs.Settling.{room_as, well_named, well_ordered}
+use Rattle.amend.proofs.Settling.{room_as, well_named, well_ordered}
 use Rattle.answer.specs.Laws.{not_refused, cleared, settled_last, clears_join, clear}
 use Rattle.answer.specs.Reply.{Reply, accepted, refused, Counts}
 use Rattle.answer.specs.Table.{Clears}

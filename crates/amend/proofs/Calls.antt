@@ -9,7 +9,7 @@ use Rattle.std.proofs.Math.Decide.{ℕ_discrete}
 use Rattle.amend.specs.Amending.{Says, pins, strikes, narrows, amend_rows, written, Amended, Leaves}
 use Rattle.amend.specs.Fields.{written_places, written_ends, written_alike, written_states, written_low, written_high, written_sound}
 use Rattle.amend.specs.Keying.{SettledForm, Call, Accepts, last, before}
-use Rattle.amend.specs.Settling.{says_one, well_formed}
+use Rattle.amend.proofs.Settling.{says_one, well_formed}
 use Rattle.answer.specs.Laws.{not_refused, cleared, clears_back, fact}
 use Rattle.answer.specs.Reply.{accepted, Counts}
 use Rattle.answer.specs.Table.{Clears}
