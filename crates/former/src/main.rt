@@ -6,55 +6,43 @@ ghost use Rattle.std.specs.Prelude.{◌≤◌, length};
 
 use answer::Range;
 use items::{Fault, Gathered};
-use libc::{STDERR_FILENO, STDIN_FILENO, STDOUT_FILENO};
+use std::io;
 use writer::Writing;
 
-fn say(word: &[u8]) {
-    io::write_all(STDERR_FILENO, word);
-}
-
-fn number(n: usize) {
-    io::print_decimal(STDERR_FILENO, n as u64);
-}
-
-fn say_line(line: usize) {
-    say(b"line ");
-    number(line);
-    say(b": ");
-}
-
 // What is wrong with a word.
-fn say_fault(fault: Fault) {
+fn fault_meaning(fault: Fault) -> &'static str {
     match fault {
-        Fault::NotAnItem => say(b" is not place, supply, run or count\n"),
-        Fault::NoNumber => say(b" is missing: a number\n"),
-        Fault::NotDigits => say(b" is not a number in decimal digits\n"),
-        Fault::Above => say(b" is a number above 65,535\n"),
-        Fault::NoState => say(b" is missing: fixed, possible or struck\n"),
-        Fault::NotAState => say(b" is not fixed, possible or struck\n"),
-        Fault::OneTooMany => say(b" is one too many\n"),
-        Fault::SecondCount => say(b" is a second count\n"),
+        Fault::NotAnItem => "is not place, supply, run or count",
+        Fault::NoNumber => "is missing: a number",
+        Fault::NotDigits => "is not a number in decimal digits",
+        Fault::Above => "is a number above 65,535",
+        Fault::NoState => "is missing: fixed, possible or struck",
+        Fault::NotAState => "is not fixed, possible or struck",
+        Fault::OneTooMany => "is one too many",
+        Fault::SecondCount => "is a second count",
     }
+}
+
+fn say_fault(rt: &impl Eprint, line: usize, word: u8, fault: Fault) -> io::Result<()> {
+    let meaning = fault_meaning(fault);
+    eprintln!(rt; "line {line}: word {word} {meaning}")
 }
 
 // What the writer's number means.
-fn say_meaning(no: u16) {
+fn refusal_meaning(no: u16) -> &'static str {
     match no {
-        2 => say(b": there is no place, or more than 256 places, or more than 1,024 runs\n"),
-        4 => say(b": the place's byte is above 1\n"),
-        5 => say(b": the run's ends are not two of the places, the smaller one first\n"),
-        6 => say(b": the run has the ends of an earlier run\n"),
-        7 => say(b": low is above high\n"),
-        _ => say(b": there is no room for the form\n"),
+        2 => "there is no place, or more than 256 places, or more than 1,024 runs",
+        4 => "the place's byte is above 1",
+        5 => "the run's ends are not two of the places, the smaller one first",
+        6 => "the run has the ends of an earlier run",
+        7 => "low is above high",
+        _ => "there is no room for the form",
     }
 }
 
-fn say_refused(no: u16, place: u16) {
-    say(b"refused ");
-    number(no as usize);
-    say(b" ");
-    number(place as usize);
-    say_meaning(no);
+fn say_refused(rt: &impl Eprint, no: u16, place: u16) -> io::Result<()> {
+    let meaning = refusal_meaning(no);
+    eprintln!(rt; "refused {no} {place}: {meaning}")
 }
 
 fn smaller(a: usize, b: usize) -> usize
@@ -64,19 +52,19 @@ fn smaller(a: usize, b: usize) -> usize
 }
 
 // Writes the form of these fields.
-fn write(places: &[u8], runs: &[u8], line: Range) {
+fn write(rt: &(impl Print + Eprint), places: &[u8], runs: &[u8], line: Range) -> io::Result<()> {
     let mut form = [0u8; 5400];
     match writer::write(places, runs, line, &mut form) {
-        Writing::Refused { number, place } => say_refused(number, place),
+        Writing::Refused { number, place } => say_refused(rt, number, place),
         Writing::Written { length } => {
             let end = smaller(length, 5400);
-            io::write_all(STDOUT_FILENO, &form[0..end]);
+            rt.write_all(&form[..end])
         }
     }
 }
 
 // Writes the form that a text says.
-fn form(text: &[u8])
+fn form(rt: &(impl Print + Eprint), text: &[u8]) -> io::Result<()>
     requires { length text.now ≤ 65536 }
 {
     let mut places = [0u8; 257];
@@ -86,26 +74,17 @@ fn form(text: &[u8])
             places: n,
             records,
             line,
-        } => write(&places[0..n], &runs[0..records], line),
-        Gathered::Wrong { line, word, fault } => {
-            say_line(line);
-            say(b"word ");
-            number(word as usize);
-            say_fault(fault);
-        }
-        Gathered::NoCount { line } => {
-            say_line(line);
-            say(b"there is no count\n");
-        }
+        } => write(rt, &places[0..n], &runs[0..records], line),
+        Gathered::Wrong { line, word, fault } => say_fault(rt, line, word, fault),
+        Gathered::NoCount { line } => eprintln!(rt; "line {line}: there is no count"),
     }
 }
 
-fn main() {
+fn main(rt: HostRuntime) -> io::Result<()> {
     let mut space = [0u8; 65537];
-    let got = io::read_full(STDIN_FILENO, &mut space);
+    let got = input::read_full(&mut rt.stdin(), &mut space);
     if 65536 < got {
-        say(b"the text is longer than 65,536 bytes\n");
-        return;
+        return eprintln!(rt; "the text is longer than 65,536 bytes");
     }
-    form(&space[..got]);
+    form(&rt, &space[..got])
 }

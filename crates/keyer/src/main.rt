@@ -5,7 +5,9 @@
 ghost use Rattle.std.specs.Prelude.{◌≤◌, ◌<◌, length};
 
 use answer::Answer;
-use libc::{STDIN_FILENO, STDOUT_FILENO};
+use std::alloc::AllocError;
+use std::io;
+use std::io::{BufWriter, Write};
 use words::{Meaning, Request};
 
 // How keying ends: the answer of the last step, and the number of that step where it is a refusal.
@@ -15,34 +17,28 @@ struct End {
     step: usize,
 }
 
-fn main() {
-    let count = os::arg_count();
-    let request = words::asked(count);
-    match request {
-        Request::Nonsense { word } => usage(word),
-        Request::Keying { amended, file } => key(count, amended, file),
+fn main(rt: HostRuntime) -> io::Result<()> {
+    let words = words::all(&rt)?;
+    match words::asked(words.as_slice()) {
+        Request::Nonsense { word } => usage(&rt, word),
+        Request::Keying { amended, file } => key(&rt, words.as_slice(), amended, file),
     }
 }
 
 // Says how words are put, and the word from which on they are not.
-fn usage(word: usize) {
-    io::write_all(
-        STDOUT_FILENO,
-        b"usage: keyer [pin R | strike R | narrow A B | -o FILE].. < FORM; see word ",
-    );
-    io::print_decimal(STDOUT_FILENO, word as u64);
-    io::write_all(STDOUT_FILENO, b"\n");
+fn usage(rt: &impl Print, word: usize) -> io::Result<()> {
+    println!(rt; "usage: keyer [pin R | strike R | narrow A B | -o FILE].. < FORM; see word {word}")
 }
 
 // Keys the amendments to the form that is read here, and lists the end.
-fn key(count: usize, amended: bool, file: usize) {
+fn key(rt: &HostRuntime, words: &[Vec<u8>], amended: bool, file: usize) -> io::Result<()> {
     let mut image = [0u8; 5401];
     let mut form = [0u8; 5400];
     let mut wiring = [0u8; 1024];
     let mut segments = [0u16; 256];
-    let got = io::read_full(STDIN_FILENO, &mut image);
+    let got = input::read_full(&mut rt.stdin(), &mut image);
     let end = keyed(
-        count,
+        words,
         amended,
         got,
         &mut image,
@@ -50,33 +46,42 @@ fn key(count: usize, amended: bool, file: usize) {
         &mut wiring,
         &mut segments,
     );
-    let answer = end.answer;
-    match answer {
+    let mut out = BufWriter::new(rt.alloc(), rt.stdout())?;
+    match end.answer {
         Answer::Refused { number, place } => {
-            listing::refused(number, place);
+            listing::refused(&mut out, number, place)?;
             if amended {
-                listing::step(end.step);
+                listing::step(&mut out, end.step)?;
             }
         }
         Answer::Accepted { struck, pinned } => {
-            if saved(file, &image[..got]) {
-                listing::accepted(struck, pinned, &form, &wiring, &segments);
+            if saved(rt, words, file, &image[..got])? {
+                listing::accepted(&mut out, struck, pinned, &form, &wiring, &segments)?;
             }
         }
     }
+    out.flush()
 }
 
-// Whether the form is written where a word names a file for it.
-fn saved(file: usize, form: &[u8]) -> bool {
+// Whether the form is written where a word names a file for it. A word that is not there names none, as an empty one.
+fn saved(
+    rt: &HostRuntime,
+    words: &[Vec<u8>],
+    file: usize,
+    form: &[u8],
+) -> Result<bool, AllocError> {
     if file == 0 {
-        return true;
+        return Ok(true);
     }
-    words::save(file, form)
+    match words.get(file) {
+        Some(word) => words::save(rt, word.as_slice(), form),
+        None => words::save(rt, b"", form),
+    }
 }
 
 // The end of keying every amendment, or of filtering alone where there is none; where it accepts, the image is the end form.
 fn keyed(
-    count: usize,
+    words: &[Vec<u8>],
     amended: bool,
     got: usize,
     image: &mut [u8],
@@ -87,7 +92,7 @@ fn keyed(
     requires { (got ≤ length image.old) × (length form.old ≤ length image.old) }
 {
     if amended {
-        return steps(count, got, image, form, wiring, segments);
+        return steps(words, got, image, form, wiring, segments);
     }
     let answer = filter::filter(&image[..got], form, wiring, segments);
     layout::put(form, image, 0);
@@ -96,7 +101,7 @@ fn keyed(
 
 // Keys from left to right, up to a refusal.
 fn steps(
-    count: usize,
+    words: &[Vec<u8>],
     got: usize,
     image: &mut [u8],
     form: &mut [u8],
@@ -111,8 +116,9 @@ fn steps(
     };
     let mut step = 0;
     let mut i = 1;
+    let count = words.len();
     while i < count {
-        let meaning = words::said(i, count);
+        let meaning = words::said(words, i);
         if let Meaning::Amendment {
             kind,
             first,

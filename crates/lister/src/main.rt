@@ -3,42 +3,41 @@
 #![tactic(auto)]
 
 use answer::Answer;
-use libc::STDIN_FILENO;
+use std::io;
+use std::io::{BufWriter, Read, Write};
 
-fn main() {
-    let count = os::arg_count();
-    if count < 2 {
-        list(STDIN_FILENO);
+fn main(rt: HostRuntime) -> io::Result<()> {
+    let words = words::all(&rt)?;
+    if words.len() < 2 {
+        list(&rt, &mut rt.stdin())?;
     }
-    let mut i = 1;
-    while i < count {
-        list_word(i);
-        i += 1;
+    for i in 1..words.len() {
+        list_word(&rt, words[i].as_slice())?;
     }
+    Ok(())
 }
 
-// Lists the form in the file that word i names, where that can be opened.
-fn list_word(i: usize) {
-    let fd = words::open(i);
-    if fd < 0 {
-        return;
-    }
-    list(fd);
-    libc::close(fd);
+// Lists the form in the file that a word names, where that can be opened.
+fn list_word(rt: &HostRuntime, word: &[u8]) -> io::Result<()> {
+    let Some(mut file) = words::open(rt, word)? else {
+        return Ok(());
+    };
+    list(rt, &mut file)
 }
 
 // Lists the form that is read here.
-fn list(fd: i32) {
+fn list<R: Read>(rt: &HostRuntime, input: &mut R) -> io::Result<()> {
     let mut space = [0u8; 5401];
     let mut form = [0u8; 5400];
     let mut wiring = [0u8; 1024];
     let mut segments = [0u16; 256];
-    let got = io::read_full(fd, &mut space);
-    let answer = filter::filter(&space[..got], &mut form, &mut wiring, &mut segments);
-    match answer {
-        Answer::Refused { number, place } => listing::refused(number, place),
-        Answer::Accepted { struck, pinned } => listing::accepted(
-            struck, pinned, &form, &wiring, &segments,
-        ),
+    let got = input::read_full(input, &mut space);
+    let mut out = BufWriter::new(rt.alloc(), rt.stdout())?;
+    match filter::filter(&space[..got], &mut form, &mut wiring, &mut segments) {
+        Answer::Refused { number, place } => listing::refused(&mut out, number, place)?,
+        Answer::Accepted { struck, pinned } => {
+            listing::accepted(&mut out, struck, pinned, &form, &wiring, &segments)?;
+        }
     }
+    out.flush()
 }

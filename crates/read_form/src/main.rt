@@ -2,67 +2,42 @@
 #![tactic(auto)]
 
 use layout::{RUN, Run};
-use libc::{STDIN_FILENO, STDOUT_FILENO};
 use reader::Reading;
+use std::io;
 
-fn say(word: &[u8]) {
-    io::write_all(STDOUT_FILENO, word);
+fn show_place(rt: &impl Print, k: usize, supply: u8) -> io::Result<()> {
+    println!(rt; "place {k} {supply}")
 }
 
-fn number(n: usize) {
-    say(b" ");
-    io::print_decimal(STDOUT_FILENO, n as u64);
+fn show_run(rt: &impl Print, r: usize, run: Run) -> io::Result<()> {
+    let Run { u, v, state } = run;
+    println!(rt; "run {r} {u} {v} {state}")
 }
 
-fn show_place(k: usize, supply: u8) {
-    say(b"place");
-    number(k);
-    number(supply as usize);
-    say(b"\n");
-}
-
-fn show_run(r: usize, run: Run) {
-    say(b"run");
-    number(r);
-    number(run.u);
-    number(run.v);
-    number(run.state as usize);
-    say(b"\n");
-}
-
-fn show_places(places: &[u8]) {
+fn show_places(rt: &impl Print, places: &[u8]) -> io::Result<()> {
     for k in 0..places.len() {
-        show_place(k, places[k]);
+        show_place(rt, k, places[k])?;
     }
+    Ok(())
 }
 
-fn show_runs(runs: &[u8]) {
+fn show_runs(rt: &impl Print, runs: &[u8]) -> io::Result<()> {
     for r in 0..runs.len() / RUN {
-        show_run(r, layout::run_at(runs, r));
+        show_run(rt, r, layout::run_at(runs, r))?;
     }
+    Ok(())
 }
 
-fn main() {
+fn main(rt: HostRuntime) -> io::Result<()> {
     let mut space = [0u8; 5401];
-    let got = io::read_full(STDIN_FILENO, &mut space);
+    let got = input::read_full(&mut rt.stdin(), &mut space);
     let image = &space[..got];
-    let reading = reader::read(image);
-    match reading {
-        Reading::Refused { number: no, place } => {
-            say(b"refused");
-            number(no as usize);
-            number(place as usize);
-            say(b"\n");
-        }
+    match reader::read(image) {
+        Reading::Refused { number, place } => println!(rt; "refused {number} {place}"),
         Reading::Form { places, runs, line } => {
-            say(b"form");
-            number(places);
-            number(runs);
-            number(line.low as usize);
-            number(line.high as usize);
-            say(b"\n");
-            show_places(reader::place_section(image));
-            show_runs(reader::run_section(image));
+            println!(rt; "form {places} {runs} {} {}", line.low, line.high)?;
+            show_places(&rt, reader::place_section(image))?;
+            show_runs(&rt, reader::run_section(image))
         }
     }
 }

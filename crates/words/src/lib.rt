@@ -1,12 +1,19 @@
 // What a program's words say: files to open or to write, and amendments.
 #![tactic(auto)]
 
-ghost use Rattle.std.specs.Prelude.{◌≡◌, ◌+◌, ◌≤◌, ◌<◌, min};
-ghost use Rattle.io.specs.Counts.{IsPrefixLen};
+ghost use Rattle.std.specs.Prelude.{◌≡◌, ◌+◌, ◌≤◌, ◌<◌, min, length, take, IfSome, IsTrue, ◌↔◌};
 ghost use Rattle.words.specs.Length.{words_in};
+ghost use Rattle.words.specs.Said.{IsWord, NumberAt, RunAt, NarrowingAt, Means, Asks};
 
-use check::same;
+use std::alloc::AllocError;
+use std::env::{Env, FillError};
+use std::fs::File;
+use std::io;
+use std::io::Write;
 use text::Decimal;
+
+// No word of more bytes says anything or names a file.
+const LONGEST: usize = 4096;
 
 // What is said from one word on: an amendment, its three numbers; '-o' and the name of a file; or neither.
 #[derive(Drop)]
@@ -24,57 +31,102 @@ pub enum Request {
     Nonsense { word: usize },
 }
 
-// Opens the file that word i names, and answers a descriptor, or -1 once it has said on standard error why it cannot.
-pub fn open(i: usize) -> i32 {
-    let mut space = [0u8; 4096];
-    let length = name(i, &mut space);
-    let fd = os::open_read(&space[..length]);
-    if fd < 0 {
-        os::fail(&space[..length]);
+// The words that the program was started with, its name first. One of more than 4,096 bytes has its first 4,097 here.
+pub fn all<R: Env + AllocGlobal>(rt: &R) -> Result<Vec<Vec<u8>>, AllocError> {
+    let mut words = Vec::new(rt.alloc());
+    for i in 0..usize::MAX {
+        let mut space = [0u8; 4097];
+        let Some(length) = name(rt, i, &mut space) else {
+            break;
+        };
+        words.push(Vec::from_slice(rt.alloc(), &space[..length])?)?;
     }
-    fd
+    Ok(words)
 }
 
-// Writes the bytes, and no others, to the file that word i names; false once it has said on standard error why it cannot.
-pub fn save(i: usize, bytes: &[u8]) -> bool {
-    let mut space = [0u8; 4096];
-    let length = name(i, &mut space);
-    let fd = os::open_overwrite(&space[..length]);
-    if fd < 0 {
-        os::fail(&space[..length]);
-        return false;
-    }
-    if !io::write_all(fd, bytes) {
-        os::fail(&space[..length]);
-        libc::close(fd);
-        return false;
-    }
-    if libc::close(fd) != 0 {
-        os::fail(&space[..length]);
-        return false;
-    }
-    true
-}
-
-// The name that word i is, at the start of the space; one that is too long fills it, and that is too long for any file.
-fn name(i: usize, space: &mut [u8]) -> usize
-    ensures { IsPrefixLen result space.new }
+// The length of word i, which is at the start of the space then, where there is such a word; one that is too long fills the space.
+fn name(rt: &impl Env, i: usize, space: &mut [u8]) -> Option<usize>
+    ensures { IfSome result (λ n. (n ≤ length space.new) × (n ≡ length (take n space.new))) }
 {
-    let length = os::arg(i, space);
-    if os::errno() == 0 {
-        length
-    } else {
-        space.len()
+    match rt.arg(i, space) {
+        Ok(length) => Some(length),
+        Err(FillError::TooLong) => Some(space.len()),
+        Err(FillError::NotPresent) => None,
+    }
+}
+
+// Opens the file that a word names, or says on standard error why it cannot.
+pub fn open(rt: &HostRuntime, word: &[u8]) -> Result<Option<File>, AllocError> {
+    match path(word).and_then(|path| File::open(rt, path)) {
+        Ok(file) => Ok(Some(file)),
+        Err(error) => {
+            fail(rt, word, error)?;
+            Ok(None)
+        }
+    }
+}
+
+// Writes the bytes, and no others, to the file that a word names; false once it has said on standard error why it cannot.
+pub fn save(rt: &HostRuntime, word: &[u8], bytes: &[u8]) -> Result<bool, AllocError> {
+    match written(rt, word, bytes) {
+        Ok(()) => Ok(true),
+        Err(error) => {
+            fail(rt, word, error)?;
+            Ok(false)
+        }
+    }
+}
+
+fn written(rt: &HostRuntime, word: &[u8], bytes: &[u8]) -> io::Result<()> {
+    File::create(rt, path(word)?)?.write_all(bytes)
+}
+
+// The path that a word is. Today's library takes a path as text alone: a word of other bytes names no file, for the system's own reason.
+fn path(word: &[u8]) -> io::Result<&str> {
+    if LONGEST <= word.len() {
+        return Err(io::Error::from_raw_os_error(NAME_TOO_LONG));
+    }
+    match str::from_utf8(word) {
+        Ok(path) => Ok(path),
+        Err(_) => Err(io::Error::from_raw_os_error(NOT_TEXT)),
+    }
+}
+
+// Two of the system's numbers for what is wrong, which it has words for.
+const NAME_TOO_LONG: i32 = 36;
+
+const NOT_TEXT: i32 = 84;
+
+// Says on standard error what is wrong with the file that a word names: the word, and the system's words for it. Where that cannot be
+// said, the program goes on.
+fn fail(rt: &HostRuntime, word: &[u8], error: io::Error) -> Result<(), AllocError> {
+    let text = error.to_string(rt.alloc())?;
+    let mut line = Vec::from_slice(rt.alloc(), &word[..word.len().min(LONGEST)])?;
+    line.extend_from_slice(b": ")?;
+    line.extend_from_slice(reason(text.as_str()).as_bytes())?;
+    line.push(b'\n')?;
+    let _said = rt.stderr().write_all(line.as_slice());
+    Ok(())
+}
+
+// The words of an error, without its number.
+fn reason(text: &str) -> &str {
+    match text.split_once(" (os error ") {
+        Some((reason, _)) => reason,
+        None => text,
     }
 }
 
 // What all words say, the first being word 1.
-pub fn asked(count: usize) -> Request {
+pub fn asked(words: &[Vec<u8>]) -> Request
+    ensures { Asks words.now result }
+{
+    let count = words.len();
     let mut amended = false;
     let mut file = 0;
     let mut i = 1;
     while i < count {
-        let meaning = said(i, count);
+        let meaning = said(words, i);
         match meaning {
             Meaning::Nothing => {
                 return Request::Nonsense { word: i };
@@ -99,23 +151,21 @@ pub fn asked(count: usize) -> Request {
 }
 
 // What is said from word i on.
-pub fn said(i: usize, count: usize) -> Meaning
-    requires { i < count }
+pub fn said(words: &[Vec<u8>], i: usize) -> Meaning
+    requires { i < length words.now }
+    ensures { Means words.now i result }
 {
-    let mut space = [0u8; 8]; // a longer word is none of these
-    let length = os::arg(i, &mut space);
-    let word = &space[..length];
-    if same(word, b"pin") {
-        return of_run(1, i, count);
+    if is(words, i, b"pin") {
+        return of_run(1, words, i);
     }
-    if same(word, b"strike") {
-        return of_run(2, i, count);
+    if is(words, i, b"strike") {
+        return of_run(2, words, i);
     }
-    if same(word, b"narrow") {
-        return narrowing(i, count);
+    if is(words, i, b"narrow") {
+        return narrowing(words, i);
     }
-    if same(word, b"-o") {
-        if count - i < 2 {
+    if is(words, i, b"-o") {
+        if words.len() - i < 2 {
             return Meaning::Nothing;
         }
         return Meaning::File;
@@ -123,14 +173,23 @@ pub fn said(i: usize, count: usize) -> Meaning
     Meaning::Nothing
 }
 
-// A pin or a strike, its run in the next word.
-fn of_run(kind: u16, i: usize, count: usize) -> Meaning
-    requires { i < count }
+// Whether word i is these bytes.
+fn is(words: &[Vec<u8>], i: usize, bytes: &[u8]) -> bool
+    requires { i < length words.now }
+    ensures { IsTrue result ↔ IsWord words.now i bytes.now }
 {
-    if count - i < 2 {
+    words[i].as_slice() == bytes
+}
+
+// A pin or a strike, its run in the next word.
+fn of_run(kind: u16, words: &[Vec<u8>], i: usize) -> Meaning
+    requires { i < length words.now }
+    ensures { RunAt words.now kind (i + 1) result }
+{
+    if words.len() - i < 2 {
         return Meaning::Nothing;
     }
-    let run = number_at(i + 1);
+    let run = number_at(words, i + 1);
     let Decimal::Is { value: first } = run else {
         return Meaning::Nothing;
     };
@@ -142,17 +201,18 @@ fn of_run(kind: u16, i: usize, count: usize) -> Meaning
 }
 
 // A narrowing, its two counts in the next words.
-fn narrowing(i: usize, count: usize) -> Meaning
-    requires { i < count }
+fn narrowing(words: &[Vec<u8>], i: usize) -> Meaning
+    requires { i < length words.now }
+    ensures { NarrowingAt words.now (i + 1) result }
 {
-    if count - i < 3 {
+    if words.len() - i < 3 {
         return Meaning::Nothing;
     }
-    let low = number_at(i + 1);
+    let low = number_at(words, i + 1);
     let Decimal::Is { value: first } = low else {
         return Meaning::Nothing;
     };
-    let high = number_at(i + 2);
+    let high = number_at(words, i + 2);
     let Decimal::Is { value: second } = high else {
         return Meaning::Nothing;
     };
@@ -190,8 +250,14 @@ fn length(meaning: Meaning) -> usize
 }
 
 // The number that word i says. A word of more than 4,096 bytes says none.
-fn number_at(i: usize) -> Decimal {
-    let mut space = [0u8; 4096];
-    let length = os::arg(i, &mut space);
-    text::number(&space[..length])
+fn number_at(words: &[Vec<u8>], i: usize) -> Decimal
+    ensures { NumberAt words.now i result }
+{
+    let Some(word) = words.get(i) else {
+        return Decimal::Not;
+    };
+    if LONGEST < word.len() {
+        return Decimal::Not;
+    }
+    text::number(word.as_slice())
 }

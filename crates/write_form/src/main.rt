@@ -6,17 +6,8 @@ ghost use Rattle.std.specs.Prelude.{◌≤◌};
 
 use answer::Range;
 use layout::word;
-use libc::{STDIN_FILENO, STDOUT_FILENO};
+use std::io;
 use writer::Writing;
-
-fn say(word: &[u8]) {
-    io::write_all(STDOUT_FILENO, word);
-}
-
-fn number(n: usize) {
-    say(b" ");
-    io::print_decimal(STDOUT_FILENO, n as u64);
-}
 
 fn smaller(a: usize, b: usize) -> usize
     ensures within { (result ≤ a) × (result ≤ b) }
@@ -47,22 +38,13 @@ fn written(input: &[u8], buffer: &mut [u8]) -> Writing {
     )
 }
 
-fn main() {
+fn main(rt: HostRuntime) -> io::Result<()> {
     let mut space = [0u8; 6000];
     let mut buffer = [170u8; 6000];
-    let got = io::read_full(STDIN_FILENO, &mut space);
-    let writing = written(&space[..got], &mut buffer);
-    match writing {
-        Writing::Written { length } => {
-            say(b"written");
-            number(length);
-        }
-        Writing::Refused { number: no, place } => {
-            say(b"refused");
-            number(no as usize);
-            number(place as usize);
-        }
+    let got = input::read_full(&mut rt.stdin(), &mut space);
+    match written(&space[..got], &mut buffer) {
+        Writing::Written { length } => println!(rt; "written {length}")?,
+        Writing::Refused { number, place } => println!(rt; "refused {number} {place}")?,
     }
-    say(b"\n");
-    io::write_all(STDOUT_FILENO, &buffer);
+    rt.write_all(&buffer)
 }
