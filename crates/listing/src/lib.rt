@@ -1,5 +1,5 @@
 // Prints a confirmed form as the paper lists it, a line at a time. Of a writer whose bytes are known, as a `Vec`, the contracts say which
-// bytes it takes.
+// bytes it takes. A write that fails is the only error, and leaves written what went before it.
 #![tactic(auto)]
 
 ghost use Rattle.std.specs.Prelude.{◌≡◌, ◌≤◌, ◌+◌, ◌*◌, min, OnOk, slice_index};

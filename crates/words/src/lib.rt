@@ -31,7 +31,8 @@ pub enum Request {
     Nonsense { word: usize },
 }
 
-// The words that the program was started with, its name first. One of more than 4,096 bytes has its first 4,097 here.
+// The words that the program was started with, its name first. One of more than 4,096 bytes has its first 4,097 here. Memory that runs out
+// is the only error.
 pub fn all<R: Env + AllocGlobal>(rt: &R) -> Result<Vec<Vec<u8>>, AllocError> {
     let mut words = Vec::new(rt.alloc());
     for i in 0..usize::MAX {
@@ -55,7 +56,8 @@ fn name(rt: &impl Env, i: usize, space: &mut [u8]) -> Option<usize>
     }
 }
 
-// Opens the file that a word names, or says on standard error why it cannot.
+// Opens the file that a word names, or says on standard error why it cannot. Memory that runs out is the only error: the file is not open
+// then, and why not is not said.
 pub fn open(rt: &HostRuntime, word: &[u8]) -> Result<Option<File>, AllocError> {
     match path(word).and_then(|path| File::open(rt, path)) {
         Ok(file) => Ok(Some(file)),
@@ -66,7 +68,8 @@ pub fn open(rt: &HostRuntime, word: &[u8]) -> Result<Option<File>, AllocError> {
     }
 }
 
-// Writes the bytes, and no others, to the file that a word names; false once it has said on standard error why it cannot.
+// Writes the bytes, and no others, to the file that a word names; false once it has said on standard error why it cannot. Memory that runs
+// out is the only error: the file is not written whole then, and why not is not said.
 pub fn save(rt: &HostRuntime, word: &[u8], bytes: &[u8]) -> Result<bool, AllocError> {
     match written(rt, word, bytes) {
         Ok(()) => Ok(true),
