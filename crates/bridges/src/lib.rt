@@ -1,6 +1,7 @@
 // Which unstruck runs are bridges, and whether both their sides hold a supply, in one pass over a forest grown over the unstruck runs. A run outside the
 // forest is no bridge, and neither is any run of it that one goes round: from the ends of each run outside one climbs to where their ways meet, and marks
 // the places passed. The side of a bridge with the root holds a supply if any does, since supplies are rooted first; the other is summed up backwards.
+// A function is kept out of line where its arrays are to leave the stack before others come.
 #![tactic(auto)]
 
 ghost use Rattle.std.specs.Prelude.{◌≡◌, ◌≤◌, length};
@@ -9,6 +10,7 @@ ghost use Rattle.bridges.specs.Kinds.{Kinds};
 ghost use Rattle.bridges.specs.Routine.{Climbable, Climbs, Copied, Feedable, Feeds, Ruled, Concluded};
 
 // For each run whose state is above 0: 0 where others join its ends, else 1 where both sides hold a supply, 2 where one does not.
+#[inline(never)]
 pub fn kinds(places: &[u8], runs: &[u8], states: [u8; 1024], m: usize) -> [u8; 1024]
     requires { Fits places.now runs.now m }
     ensures { Kinds places.now runs.now states m result }
@@ -77,6 +79,7 @@ fn supplies(places: &[u8]) -> [u8; 256]
 }
 
 // 1 for each place that has a supply under it, itself included.
+#[inline(never)]
 fn fed(places: &[u8], order: [u16; 256], up: [u16; 256], via: [u16; 256], m: usize) -> [u8; 256]
     requires { Feedable (length places.now) order up via m }
     ensures { Feeds places.now order up via m result }
@@ -110,6 +113,7 @@ fn kind(passed: u8, fed: u8) -> u8
 }
 
 // The kinds of the runs to n places, and 0 for the others.
+#[inline(never)]
 fn conclude(via: [u16; 256], passed: [u8; 256], fed: [u8; 256], n: usize, m: usize) -> [u8; 1024]
     requires { (n ≤ 256) × (m ≤ 1024) }
     ensures { Concluded via passed fed n m result }

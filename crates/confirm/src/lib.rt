@@ -1,4 +1,5 @@
 // Confirms the fields of a form: numbers 9 to 11 of the paper's table, the confirmed states, line four, the first wiring and its labels.
+// A function is kept out of line where its arrays are to leave the stack before others come.
 #![tactic(auto)]
 
 ghost use Rattle.std.specs.Prelude.{◌≡◌, ℕ, ◌*◌, ◌≤◌, ◌<◌, length, get_or};
@@ -201,6 +202,7 @@ fn marks(
 }
 
 // Numbers 9 to 11, in their order.
+#[inline(never)]
 fn judge(places: &[u8], runs: &[u8], line: Range, states: [u8; 1024]) -> Judged
     requires clears { Clears (sound_rows sizes (record { places = places.now; runs = runs.now; low = line.low; high = line.high })) }
     requires states_of { StatesOf runs.now (runs_in sizes runs.now) states }

@@ -31,8 +31,6 @@ pub fn grow(places: &[u8], runs: &[u8], states: [u8; 1024], m: usize) -> Forest
     ensures ranked { Ranked (length places.now) result.order result.rank }
 {
     let chains = link(runs, states, m);
-    let head = chains.head;
-    let prev = chains.prev;
     let n = places.len();
     let mut order = [0u16; 256];
     let mut rank = [0u16; 256];
@@ -56,10 +54,10 @@ pub fn grow(places: &[u8], runs: &[u8], states: [u8; 1024], m: usize) -> Forest
                 up[z] = x as u16;
                 via[z] = r as u16;
             }
-            c = prev[e] as usize;
+            c = chains.prev[e] as usize;
         } else if now < count {
             x = order[now] as usize;
-            c = head[x] as usize;
+            c = chains.head[x] as usize;
             now += 1;
         } else {
             let z = candidate(places, &rank, i);

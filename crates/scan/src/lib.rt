@@ -1,5 +1,6 @@
 // The scan for the first wiring: possible runs in listed order, each taken unless its ends are joined already or it would join two supplied
 // pieces when nothing is spare.
+// A function is kept out of line where its arrays are to leave the stack before others come.
 #![tactic(auto)]
 
 ghost use Rattle.std.specs.Prelude.{◌≡◌, ◌≤◌, ◌<◌, min};
@@ -50,6 +51,7 @@ fn merged(fed: [u8; 256], a: usize, b: usize) -> [u8; 256]
     after
 }
 
+#[inline(never)]
 pub fn scan(places: &[u8], runs: &[u8], states: [u8; 1024], m: usize, spare: usize) -> Wired
     requires { Fits places.now runs.now m }
     ensures { Scans places.now runs.now states m spare result.used result.labels }

@@ -12,11 +12,11 @@ use std::io;
 use std::io::Write;
 use text::Decimal;
 
-// No word of more bytes says anything or names a file.
+// No word of more bytes says anything, and none of as many names a file.
 const LONGEST: usize = 4096;
 
 // What is said from one word on: an amendment, its three numbers; '-o' and the name of a file; or neither.
-#[derive(Drop)]
+#[derive(Clone, Copy)]
 pub enum Meaning {
     Amendment { kind: u16, first: u16, second: u16 },
     File,
@@ -25,7 +25,7 @@ pub enum Meaning {
 
 // What all words ask for: whether something is amended, and the word that names a file, or 0;
 // or the word from which on they say nothing.
-#[derive(Drop)]
+#[derive(Clone, Copy)]
 pub enum Request {
     Keying { amended: bool, file: usize },
     Nonsense { word: usize },

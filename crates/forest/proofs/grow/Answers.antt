@@ -91,11 +91,11 @@ offset_bounds-via-z c = let e = at_entry (goal.at.offset_bounds-via-z c).After-f
 pub bounds-via-z : goal.bounds-via-z
 bounds-via-z c = let e = at_entry (goal.at.bounds-via-z c).After-far-z in let k = at_place (goal.at.bounds-via-z c).After-far-z c.if-rank-z-eq0.true in omega arith
 
-pub offset_bounds-prev-e : goal.offset_bounds-prev-e
-offset_bounds-prev-e c = let e = at_entry (goal.at.offset_bounds-prev-e c).After-far-z in omega arith
+pub offset_bounds-chains-e : goal.offset_bounds-chains-e
+offset_bounds-chains-e c = let e = at_entry (goal.at.offset_bounds-chains-e c).After-far-z in omega arith
 
-pub bounds-prev-e : goal.bounds-prev-e
-bounds-prev-e c = let e = at_entry (goal.at.bounds-prev-e c).After-far-z in omega arith
+pub bounds-chains-e : goal.bounds-chains-e
+bounds-chains-e c = let e = at_entry (goal.at.bounds-chains-e c).After-far-z in omega arith
 
 pub overflow_cast-c : goal.overflow_cast-c
 overflow_cast-c c = let e = at_entry (goal.at.overflow_cast-c c).After-far-z in omega arith
@@ -120,11 +120,11 @@ bounds-order-now c = let e = at_next _ _ _ _ c.requires c.link-chains.ensures c.
 pub overflow_cast-x : goal.overflow_cast-x
 overflow_cast-x c = let e = at_next _ _ _ _ c.requires c.link-chains.ensures c.loop-i.invariant.1 c.if-now-count.true in omega arith
 
-pub offset_bounds-head-x : goal.offset_bounds-head-x
-offset_bounds-head-x c = let e = at_next _ _ _ _ c.requires c.link-chains.ensures c.loop-i.invariant.1 c.if-now-count.true in omega arith
+pub offset_bounds-chains-x : goal.offset_bounds-chains-x
+offset_bounds-chains-x c = let e = at_next _ _ _ _ c.requires c.link-chains.ensures c.loop-i.invariant.1 c.if-now-count.true in omega arith
 
-pub bounds-head-x : goal.bounds-head-x
-bounds-head-x c = let e = at_next _ _ _ _ c.requires c.link-chains.ensures c.loop-i.invariant.1 c.if-now-count.true in omega arith
+pub bounds-chains-x : goal.bounds-chains-x
+bounds-chains-x c = let e = at_next _ _ _ _ c.requires c.link-chains.ensures c.loop-i.invariant.1 c.if-now-count.true in omega arith
 
 pub overflow_add-now : goal.overflow_add-now
 overflow_add-now c = let e = at_next _ _ _ _ c.requires c.link-chains.ensures c.loop-i.invariant.1 c.if-now-count.true in omega arith
