@@ -196,5 +196,7 @@ pub fn put(src: &[u8], form: &mut [u8], at: usize)
     requires { at + length src.now ≤ length form.old }
     ensures { form.new ≡ over_at at src.now form.old }
 {
-    form[at..at + src.len()].copy_from_slice(src);
+    for i in 0..src.len() {
+        form[at + i] = src[i];
+    }
 }

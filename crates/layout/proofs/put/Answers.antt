@@ -1,11 +1,10 @@
--- `put` is a copy to the part of the buffer that begins at `at` and is as long as what is written.
-use Rattle.std.proofs.Common.{◌≡◌, ℕ, ◌+◌, ◌-◌, ◌++◌, List, length, drop, take, ap, ◌∙◌, arith, drop-drop}
+use Rattle.std.proofs.Common.{◌≡◌, ◌+◌, List, ℕ, suc, set, get_or, ap, ◌∙◌, arith}
+use Rattle.std.proofs.Math.Seq.{paste, paste-suc}
 use Rattle.layout.proofs.put.Goals as goal
 
-pub returns : goal.returns
-returns c =
-    let k : (c.args.at + length c.args.src.now) - c.args.at ≡ length c.args.src.now = omega arith in
-    ap (λ (l : List ℕ). take c.args.at c.args.form.now ++ l)
-    (ap (λ (l : List ℕ). l ++ drop ((c.args.at + length c.args.src.now) - c.args.at) (drop c.args.at c.args.form.now)) c.copy_from_slice.ensures.after
-    ∙ ap (λ (n : ℕ). c.args.src.now ++ drop n (drop c.args.at c.args.form.now)) k
-    ∙ ap (λ (l : List ℕ). c.args.src.now ++ l) (drop-drop (length c.args.src.now) c.args.at c.args.form.now))
+pub loop-i-preserved : goal.loop-i-preserved
+loop-i-preserved c =
+    let next : suc c.loop-i.i ≡ c.loop-i.i + 1 = omega arith in
+    ap (λ (l : List ℕ). set l (c.args.at + c.loop-i.i) (get_or c.args.src.now c.loop-i.i 0)) c.loop-i.invariant
+    ∙ paste-suc c.args.form.now c.args.at c.args.src.now c.loop-i.i 0 (omega arith) (omega arith)
+    ∙ ap (paste c.args.form.now c.args.at c.args.src.now) next

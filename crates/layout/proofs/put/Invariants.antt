@@ -1,0 +1,7 @@
+-- `put` has written the bytes passed, from `at` on.
+use Rattle.std.proofs.Common.{◌≡◌}
+use Rattle.std.proofs.Math.Seq.{paste}
+use Rattle.layout.proofs.put.Given as goal
+
+abbrev pub invariant-loop-i : goal.invariant-loop-i
+invariant-loop-i l = l.form ≡ paste l.initial.form l.at l.src l.i
