@@ -4,7 +4,8 @@
 
 ghost use Rattle.std.specs.Prelude.{◌≡◌, ◌≤◌, ◌+◌, ◌*◌, min, OnOk, slice_index};
 ghost use Rattle.std.specs.Io.KnownBytes.{Appends};
-ghost use Rattle.listing.specs.Listing.{refused_line, step_line, ok_line, run_line, place_line, run_lines, place_lines, listing, word_at};
+ghost use Rattle.listing.specs.Listing.{refused_line, step_line, ok_line, run_line, place_line, run_lines, place_lines, listing};
+ghost use Rattle.layout.specs.Layout.{word as word_at};
 
 use layout::{CONTENTS, RUN, word};
 use std::io;

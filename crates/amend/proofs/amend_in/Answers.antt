@@ -1,15 +1,12 @@
 -- `amend_in` filters, writes the amendment in and filters again; each return is one way out of the table.
-use Rattle.std.proofs.Common.{ℕ, List, sym, ap, ◌∙◌, take, length-take-le, arith}
+use Rattle.std.proofs.Common.{sym, ap, ◌∙◌, take, length-take-le, arith}
 use Rattle.amend.proofs.Ending.{draft_on_file, draft_long, draft_room, not_written, second_long, second_room, second_refused, second_accepted}
 use Rattle.amend.proofs.Settling.{Shorter, stopped}
 use Rattle.answer.specs.Reply.{told}
 use Rattle.filter.specs.Filtered.{Lent}
+use Rattle.filter.proofs.Came.{lent}
 use Rattle.amend.proofs.amend_in.Goals as goal
 use Rattle.amend.proofs.amend_in.Goals.{After-filter-confirmed}
-
--- the buffers as they came
-abbrev lent : List ℕ → List ℕ → List ℕ → Lent
-lent form wiring segments = record { form = form; wiring = wiring; segments = segments }
 
 -- the room that the first filtering has
 abbrev small : After-filter-confirmed → Lent

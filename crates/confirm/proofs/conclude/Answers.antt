@@ -1,5 +1,5 @@
 -- `conclude` puts the confirmation together.
-use Rattle.std.proofs.Common.{ℕ, ◌≡◌, List, ◌-◌, ◌≤◌, min, refl, sym, ap, subst, length, arith}
+use Rattle.std.proofs.Common.{ℕ, ◌≡◌, ◌-◌, ◌≤◌, min, refl, sym, ap, subst, length, arith}
 use Rattle.answer.specs.declared.Range.{Range}
 use Rattle.confirm.specs.Concluded.{concluded, pieces_few, fed_few}
 use Rattle.confirm.specs.Judged.{Settles}
@@ -12,12 +12,9 @@ use Rattle.wirings.specs.Confirmed.{Confirmed}
 use Rattle.wirings.specs.Labels.{label}
 use Rattle.wirings.specs.Limits.{fixed_runs, unstruck_runs, least, most}
 use Rattle.wirings.specs.OfForm.{order_of}
+use Rattle.confirm.proofs.Came.{fields}
 use Rattle.confirm.proofs.conclude.Goals as goal
 use Rattle.confirm.proofs.conclude.Goals.{After-scan-wired}
-
--- the fields as they came
-abbrev fields : List ℕ → List ℕ → Range → Fields
-fields places runs line = record { places = places; runs = runs; low = line.low; high = line.high }
 
 -- MIN and MAX are at most the number of places
 least_small : (f : Fields) (k : ℕ) → k ≡ least (order_of f) → length f.places ≤ 256 → k ≤ 256

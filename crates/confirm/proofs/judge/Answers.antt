@@ -1,21 +1,17 @@
 -- `judge` settles numbers 9 to 11 by what the piece finder found by the fixed runs and by the unstruck ones.
 use Rattle.std.proofs.Common.{ℕ, ◌≤◌, List, ◌≡◌, refl, sym, ◌∙◌, length, take, length-take-le, arith}
 use Rattle.answer.specs.Table.{First}
-use Rattle.answer.specs.declared.Range.{Range}
 use Rattle.confirm.specs.Judging.{fields_fit, fixed_labels, unstruck_labels, closing_first, supplied_as, counted_as, fed_as, labels_below, bare_first}
-use Rattle.layout.specs.Layout.{sizes, runs_in, Fields}
+use Rattle.layout.specs.Layout.{sizes, runs_in}
 use Rattle.pieces.specs.Holds.{Holds, fits_ended}
 use Rattle.pieces.specs.Laws.{holds_same}
 use Rattle.wirings.specs.Labels.{label}
 use Rattle.wirings.specs.Limits.{fixed_runs, unstruck_runs}
 use Rattle.wirings.specs.OfForm.{order_of}
 use Rattle.wirings.specs.Theorem1.{Opens}
+use Rattle.confirm.proofs.Came.{fields}
 use Rattle.confirm.proofs.judge.Goals as goal
 use Rattle.confirm.proofs.judge.Goals.{After-find-by_unstruck}
-
--- the fields as they came
-abbrev fields : List ℕ → List ℕ → Range → Fields
-fields places runs line = record { places = places; runs = runs; low = line.low; high = line.high }
 
 pub fixed-fixed-requires : goal.fixed-fixed-requires
 fixed-fixed-requires c =

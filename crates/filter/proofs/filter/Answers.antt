@@ -1,19 +1,16 @@
 -- `filter` settles numbers 1 to 11: 1 to 7 by the reader, 9 to 11 by the confirmation; and writes only where none refuses.
-use Rattle.std.proofs.Common.{ℕ, List, sym, subst, arith}
+use Rattle.std.proofs.Common.{sym, subst, arith}
 use Rattle.answer.specs.Laws.{decided, denied}
 use Rattle.answer.specs.declared.Answer.{Answer}
-use Rattle.filter.specs.Filtered.{Lent, Room, Filters}
+use Rattle.filter.specs.Filtered.{Room, Filters}
 use Rattle.filter.specs.Settling.{not_read, no_room, no_wiring, accepts, taken_sound, room_as, as_room, accepted_so, settles_taken}
 use Rattle.layout.proofs.Image.{Bytes}
 use Rattle.layout.specs.Layout.{sizes}
 use Rattle.layout.specs.Rows.{fields_of}
 use Rattle.reader.specs.Laws.{Valid, valid}
+use Rattle.filter.proofs.Came.{lent}
 use Rattle.filter.proofs.filter.Goals as goal
 use Rattle.filter.proofs.filter.Goals.{Else-not-room, In-Form}
-
--- the buffers as they came
-abbrev lent : List ℕ → List ℕ → List ℕ → Lent
-lent form wiring segments = record { form = form; wiring = wiring; segments = segments }
 
 -- past the reading: the image is bytes, and is read as a form
 small : (c : In-Form) → Bytes c.args.image.now

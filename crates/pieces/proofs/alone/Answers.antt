@@ -1,5 +1,5 @@
 use Rattle.std.proofs.Common.{ℕ, refl}
-use lib.ListN.{length-replicate}
+use Rattle.std.proofs.lemmas.List.{length-replicate}
 use Rattle.pieces.specs.Laws.{filled_none, filled_set, filled_all}
 use Rattle.pieces.proofs.alone.Goals as goal
 

@@ -12,9 +12,9 @@ pub overflow_add-k : goal.overflow_add-k
 overflow_add-k c = omega (arith, c.requires.supplied.says c.loop-x.x (omega arith))
 
 pub loop-x-preserved : goal.loop-x-preserved
-loop-x-preserved c = let x = c.loop-x.x in let s = c in let lab = at s.args.labels in let fed : ℕ → ℕ = λ y. min 1 (stock (length s.args.places.now) (at s.args.places.now) lab y) in
+loop-x-preserved c = let x = c.loop-x.x in let lab = at c.args.labels in let fed : ℕ → ℕ = λ y. min 1 (stock (length c.args.places.now) (at c.args.places.now) lab y) in
     elim c.if-labels-x.branch [
-      | then-labels-x w ↦ omega (arith, counted_here lab (λ y. y) fed x w.if-labels-x.true, s.requires.supplied.says x (omega arith))
+      | then-labels-x w ↦ omega (arith, counted_here lab (λ y. y) fed x w.if-labels-x.true, c.requires.supplied.says x (omega arith))
       | else-labels-x w ↦ omega (arith, counted_past lab (λ y. y) fed x w.if-labels-x.false)
     ]
 

@@ -10,11 +10,11 @@ pub bounds-fed-x : goal.bounds-fed-x
 bounds-fed-x c = c.requires.small.1 c.loop-y.y (omega arith)
 
 pub loop-y-preserved : goal.loop-y-preserved
-loop-y-preserved c = let s = c in let y = c.loop-y.y in let seen = c.loop-y.invariant.1 in (
+loop-y-preserved c = let y = c.loop-y.y in let seen = c.loop-y.invariant.1 in (
   omega arith,
   elim c.if-places-y-eq1.branch [
-    | then-places-y-eq1 w ↦ rw w.fed-is (seen_supply _ _ seen w.if-places-y-eq1.true (s.requires.small.1 y (omega arith)))
-    | else-places-y-eq1 w ↦ rw w.fed-is (seen_pass _ _ seen (omega (arith, s.requires.bits y)))
+    | then-places-y-eq1 w ↦ rw w.fed-is (seen_supply _ _ seen w.if-places-y-eq1.true (c.requires.small.1 y (omega arith)))
+    | else-places-y-eq1 w ↦ rw w.fed-is (seen_pass _ _ seen (omega (arith, c.requires.bits y)))
   ],
 )
 

@@ -18,8 +18,8 @@ pub bounds-after-high : goal.bounds-after-high
 bounds-after-high c = let t = told (goal.at.bounds-after-high c).Joined-a-b-2 in omega arith
 
 pub returns : goal.returns
-returns c = let t = told (goal.at.returns c).Joined-a-b-2 in let s = c in let p = s.requires in
+returns c = let t = told (goal.at.returns c).Joined-a-b-2 in let p = c.requires in
     elim c.if-fed-high-eq1.branch [
-      | then-fed-high-eq1 w ↦ rw w.after-is (rw t.0 (rw t.1 (merges_fed s.args.a s.args.b p.0 p.1 p.2 _ (rw t.1 at w.if-fed-high-eq1.true))))
-      | else-fed-high-eq1 w ↦ rw w.after-is (rw t.1 (merges_not s.args.a s.args.b p.0 p.1 p.2 _ (rw t.1 at w.if-fed-high-eq1.false)))
+      | then-fed-high-eq1 w ↦ rw w.after-is (rw t.0 (rw t.1 (merges_fed c.args.a c.args.b p.0 p.1 p.2 _ (rw t.1 at w.if-fed-high-eq1.true))))
+      | else-fed-high-eq1 w ↦ rw w.after-is (rw t.1 (merges_not c.args.a c.args.b p.0 p.1 p.2 _ (rw t.1 at w.if-fed-high-eq1.false)))
     ]

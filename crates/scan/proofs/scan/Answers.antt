@@ -30,9 +30,9 @@ pub find-found-requires : goal.find-found-requires
 find-found-requires c = rw (lent (goal.at.find-found-requires c).After-fixed-used) (fits_ended c.requires)
 
 pub supplied-fed-requires : goal.supplied-fed-requires
-supplied-fed-requires c = let s = c in let flags = take s.args.m c.fixed-used.result in record {
-  small = (s.requires.small, λ x l. omega (arith, c.find-found.ensures.holds.says x l, labels_of_le s.args.runs.now flags (length flags) x));
-  bits = s.requires.bit;
+supplied-fed-requires c = let flags = take c.args.m c.fixed-used.result in record {
+  small = (c.requires.small, λ x l. omega (arith, c.find-found.ensures.holds.says x l, labels_of_le c.args.runs.now flags (length flags) x));
+  bits = c.requires.bit;
 }
 
 pub loop-r-init : goal.loop-r-init
@@ -82,6 +82,5 @@ loop-r-preserved c = let inv = c.loop-r.invariant in let l = c.loop-r-test.true 
 )
 
 pub returns : goal.returns
-returns c = λ o d e m. let s = c in
-    let of : Of s.args.places.now s.args.runs.now s.args.states s.args.m o = record { fits = s.requires; drawn = d; many = e; marks = m } in
+returns c = λ o d e m. let of : Of c.args.places.now c.args.runs.now c.args.states c.args.m o = record { fits = c.requires; drawn = d; many = e; marks = m } in
     going_all of (c.loop-r.invariant.1 o of) (omega arith)
