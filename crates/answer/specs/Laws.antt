@@ -1,9 +1,15 @@
 -- Laws of the table of refusals: how code that goes through the rows settles an outcome, and that any two outcomes are equal.
-use Rattle.std.specs.Prelude.{ℕ, ◌+◌, ◌≤◌, ◌<◌, Bool, true, false, List, [], ◌∷◌, ◌++◌, ◌⊎◌, ◌≡◌, refl}
-use Rattle.std.proofs.Common.{inl, inr, ⊎_elim, sym, ◌∙◌, ap, below_more, le_refl, arith}
+use Rattle.std.specs.Prelude.{ℕ, ◌+◌, ◌≤◌, ◌<◌, eqb, Bool, true, false, cond, List, [], ◌∷◌, ◌++◌, ◌⊎◌, ◌≡◌, refl, length, get_or, Option, Some, None, Result, Ok, Err}
+use Rattle.std.specs.List.{position, position_or_len}
+use Rattle.std.proofs.lemmas.Bool.{ltb-true, ltb-false}
+use Rattle.std.proofs.lemmas.List.Sums.{fails_before_first, passes_at_first, prefix_len-le-length}
+use Rattle.std.proofs.Math.Dec.{ltb}
+use Rattle.std.proofs.Common.{inl, inr, ⊎_elim, sym, ◌∙◌, ap, ap₂, below_more, le_refl, arith}
 use Rattle.std.proofs.Math.Decide.{dec_lt}
-use Rattle.answer.specs.Reply.{Reply, accepted, refused}
-use Rattle.answer.specs.Table.{First, Going, Row, each, whole, Clears, Outcome, Refuses, Settled, Decides, holds, fails}
+use Rattle.answer.specs.Reply.{Reply, accepted, refused, number_of, place_of, replied}
+use Rattle.answer.specs.declared.Refusal.{Refusal}
+use Rattle.answer.specs.declared.Refusal.TheVariants.{NoContents, WrongNumbers, WrongLayout, BadPlace, BadRun, RepeatedRun, LowAboveHigh, NoRoom, FixedLoop, NoSupply, NoSuchCount, NoAmendment, NarrowedToNone, NoWiring}
+use Rattle.answer.specs.Table.{First, Finds, Going, Row, each, whole, Clears, Outcome, Refuses, Settled, Decides, holds, fails}
 
 -- ---- an acceptance is no refusal, and a refusal is the same beside values of any kind
 pub not_refused : {A : Type 0} {a : A} {n k : ℕ} → ◌≡◌ {A = Reply A} (accepted a) (refused n k) → ⊥
@@ -57,6 +63,81 @@ first_one {a = a} {b = b} p q =
       | yes l ↦ absurd (not_before p q l)
       | no nl ↦ elim (dec_lt b a) [ yes l ↦ absurd (not_before q p l) | no nr ↦ omega arith ]
     ]
+
+-- what a search returns is one thing, and what it found or did not
+finds_same : {good : ℕ → Type 0} {n : ℕ} (a b : Option ℕ) → Finds good n a → Finds good n b → a ≡ b
+finds_same None None p q = refl
+finds_same None (Some k) p q = absurd (not_before q.first p.first q.inside)
+finds_same (Some k) None p q = absurd (not_before p.first q.first p.inside)
+finds_same (Some k) (Some j) p q = ap Some (first_one p.first q.first)
+
+pub finds_one : {good : ℕ → Type 0} {n : ℕ} {a b : Option ℕ} → Finds good n a → Finds good n b → a ≡ b
+finds_one {a = a} {b} p q = finds_same a b p q
+
+pub found_some : {good : ℕ → Type 0} {n k : ℕ} {r : Option ℕ} → Finds good n r → r ≡ Some k → First good n k × (k < n)
+found_some {good} {n} p e = let q = rw e at p in (q.first, q.inside)
+
+pub found_not : {good : ℕ → Type 0} {n : ℕ} {r : Option ℕ} → Finds good n r → r ≡ None → First good n n
+found_not p e = let q = rw e at p in q.first
+
+finds_below : {good : ℕ → Type 0} {n k : ℕ} → First good n k → Finds good n (cond (ltb k n) (Some k) None)
+finds_below {good} {n} {k} f = go (ltb k n) refl
+  where
+    go : (b : Bool) → ltb k n ≡ b → Finds good n (cond b (Some k) None)
+    go true e = record { first = f; inside = ltb-true k n e }
+    go false e = let same : k ≡ n = omega (arith, ltb-false k n e, f.within) in record { first = rw same at f; inside = tt }
+
+-- the first place of a list at which a test passes
+pub finds_position : {A : Type 0} {good : ℕ → Type 0} (test : A → Bool) (xs : List A) (d : A)
+    → ((k : ℕ) → k < length xs → test (get_or xs k d) ≡ false → good k)
+    → ((k : ℕ) → k < length xs → test (get_or xs k d) ≡ true → good k → ⊥)
+    → Finds good (length xs) (position test xs)
+finds_position {good = good} test xs d pass fail =
+    finds_below (record {
+      within = within;
+      before = λ j l. pass j (omega (arith, within)) (fails_before_first test xs j d l);
+      found = λ l. fail _ l (passes_at_first test xs d l);
+    })
+  where
+    within : position_or_len test xs ≤ length xs
+    within = prefix_len-le-length _ xs
+
+-- ---- the number and the place tell the refusal, and so the paper's reply tells what the code returns
+row_of : ℕ → ℕ → Refusal
+row_of n k =
+    cond (eqb n 1) NoContents (cond (eqb n 2) WrongNumbers (cond (eqb n 3) WrongLayout (cond (eqb n 4) (BadPlace k) (cond (eqb n 5) (BadRun k)
+    (cond (eqb n 6) (RepeatedRun k) (cond (eqb n 7) LowAboveHigh (cond (eqb n 8) NoRoom (cond (eqb n 9) (FixedLoop k) (cond (eqb n 10) (NoSupply k)
+    (cond (eqb n 11) NoSuchCount (cond (eqb n 12) NoAmendment (cond (eqb n 13) NarrowedToNone NoWiring))))))))))))
+
+row_back : (r : Refusal) → row_of (number_of r) (place_of r) ≡ r
+unfolding row_of
+row_back NoContents = refl
+row_back WrongNumbers = refl
+row_back WrongLayout = refl
+row_back (BadPlace k) = refl
+row_back (BadRun k) = refl
+row_back (RepeatedRun k) = refl
+row_back LowAboveHigh = refl
+row_back NoRoom = refl
+row_back (FixedLoop k) = refl
+row_back (NoSupply k) = refl
+row_back NoSuchCount = refl
+row_back NoAmendment = refl
+row_back NarrowedToNone = refl
+row_back NoWiring = refl
+
+pub refusal_one : (a b : Refusal) → number_of a ≡ number_of b → place_of a ≡ place_of b → a ≡ b
+refusal_one a b n k = sym (row_back a) ∙ ap₂ row_of n k ∙ row_back b
+
+refused_one : {A : Type 0} {i j n k : ℕ} → ◌≡◌ {A = Reply A} (refused i j) (refused n k) → (i ≡ n) × (j ≡ k)
+refused_one e = (cc, cc)
+
+module _ {A B : Type 0} {says : A → B} (one : (a b : A) → says a ≡ says b → a ≡ b) where
+  pub replied_one : (a b : Result A Refusal) → replied says a ≡ replied says b → a ≡ b
+  replied_one (Ok a) (Ok b) e = ap Ok (one a b (accepted_one e))
+  replied_one (Ok a) (Err f) e = absurd (not_refused e)
+  replied_one (Err f) (Ok b) e = absurd (not_refused (sym e))
+  replied_one (Err f) (Err g) e = ap Err (refusal_one f g (refused_one e).0 (refused_one e).1)
 
 -- ---- any two outcomes of a table are equal, where the last word allows one only once no row has a fault
 module _ {R : Type 0} (refusal : ℕ → ℕ → R) (K : R → Type 0) where

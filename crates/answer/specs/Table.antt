@@ -1,11 +1,16 @@
 -- § 2.1: the paper's table of refusals, as a list of rows in the order of their numbers.
-use Rattle.std.specs.Prelude.{ℕ, ◌≤◌, ◌<◌, Bool, true, false, List, [], ◌∷◌, ◌⊎◌, ◌≡◌}
+use Rattle.std.specs.Prelude.{ℕ, ◌≤◌, ◌<◌, Bool, true, false, List, [], ◌∷◌, ◌⊎◌, ◌≡◌, Option, unwrap_or, IfSome}
 
 -- k is the first number below n that is not good, or n where all are
 pub record First (good : ℕ → Type 0) (n k : ℕ) : Type 0 where
   pub within : k ≤ n
   pub before : (j : ℕ) → j < k → good j
   pub found : k < n → good k → ⊥
+
+-- what a search returns: the first number below n that is not good, or none where all are
+pub record Finds (good : ℕ → Type 0) (n : ℕ) (r : Option ℕ) : Type 0 where
+  pub first : First good n (unwrap_or r n)
+  pub inside : IfSome r (λ k. k < n)
 
 -- a search that came to k has found all before it good
 pub record Going (good : ℕ → Type 0) (n k : ℕ) : Type 0 where
