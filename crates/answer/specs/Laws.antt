@@ -1,10 +1,10 @@
 -- Laws of the table of refusals: how code that goes through the rows settles an outcome, and that any two outcomes are equal.
 use Rattle.std.specs.Prelude.{ℕ, ◌+◌, ◌≤◌, ◌<◌, eqb, Bool, true, false, cond, List, [], ◌∷◌, ◌++◌, ◌⊎◌, ◌≡◌, refl, length, get_or, Option, Some, None, Result, Ok, Err}
 use Rattle.std.specs.List.{position, position_or_len}
-use Rattle.std.proofs.lemmas.Bool.{ltb-true, ltb-false}
+use Rattle.std.proofs.lemmas.Bool.{leb-true, leb-false, ltb-true, ltb-false}
 use Rattle.std.proofs.lemmas.List.Sums.{fails_before_first, passes_at_first, prefix_len-le-length}
-use Rattle.std.proofs.Math.Dec.{ltb}
-use Rattle.std.proofs.Common.{inl, inr, ⊎_elim, sym, ◌∙◌, ap, ap₂, below_more, le_refl, arith}
+use Rattle.std.proofs.Math.Dec.{leb, ltb}
+use Rattle.std.proofs.Common.{inl, inr, ⊎_elim, sym, subst, ◌∙◌, ap, ap₂, below_more, le_refl, arith}
 use Rattle.std.proofs.Math.Decide.{dec_lt}
 use Rattle.answer.specs.Reply.{Reply, accepted, refused, number_of, place_of, replied}
 use Rattle.answer.specs.declared.Refusal.{Refusal}
@@ -35,6 +35,21 @@ decides_one (holds p) (holds q) = refl
 decides_one (holds p) (fails n) = absurd (n p)
 decides_one (fails n) (holds q) = absurd (n q)
 decides_one (fails n) (fails m) = refl
+
+-- a comparison decides a fact that holds just where it does
+pub decides_le : {P : Type 0} (a b : ℕ) → (a ≤ b → P) → (P → a ≤ b) → Decides P (leb a b)
+decides_le {P} a b to from = go (leb a b) refl
+  where
+    go : (t : Bool) → leb a b ≡ t → Decides P t
+    go true e = holds (to (leb-true a b e))
+    go false e = fails (λ p. let l = from p in let g = leb-false a b e in absurd (omega arith))
+
+pub decides_lt : {P : Type 0} (a b : ℕ) → (a < b → P) → (P → a < b) → Decides P (ltb a b)
+decides_lt {P} a b to from = go (ltb a b) refl
+  where
+    go : (t : Bool) → ltb a b ≡ t → Decides P t
+    go true e = holds (to (ltb-true a b e))
+    go false e = fails (λ p. let l = from p in let g = ltb-false a b e in absurd (omega arith))
 
 -- ---- a search: where it starts, goes on, stops and ends
 pub going_none : {good : ℕ → Type 0} {n : ℕ} → Going good n 0
@@ -79,6 +94,13 @@ found_some {good} {n} p e = let q = rw e at p in (q.first, q.inside)
 
 pub found_not : {good : ℕ → Type 0} {n : ℕ} {r : Option ℕ} → Finds good n r → r ≡ None → First good n n
 found_not p e = let q = rw e at p in q.first
+
+-- a search that stops at a fault, and one that ends
+pub found_at : {good : ℕ → Type 0} {n k : ℕ} → Going good n k → k < n → (good k → ⊥) → Finds good n (Some k)
+found_at g l h = record { first = found_here g h; inside = l }
+
+pub found_nowhere : {good : ℕ → Type 0} {n k : ℕ} → Going good n k → n ≤ k → Finds good n None
+found_nowhere {good} {n} {k} g l = let e : k ≡ n = omega (arith, g.within) in record { first = subst (First good n) e (found_none g l); inside = tt }
 
 finds_below : {good : ℕ → Type 0} {n k : ℕ} → First good n k → Finds good n (cond (ltb k n) (Some k) None)
 finds_below {good} {n} {k} f = go (ltb k n) refl
@@ -178,6 +200,12 @@ module _ {R : Type 0} {refusal : ℕ → ℕ → R} {number : ℕ} {rows : List 
 
   pub passes_each : {good : ℕ → Type 0} {n k : ℕ} {r : R} → First good n k → n ≤ k → Settled refusal rows K r → Settled refusal (each number n good ∷ rows) K r
   passes_each {n = n} {k = k} f l q = let e : k ≡ n = omega (arith, f.within) in record { outcome = inr (rw e at f, q.outcome) }
+
+  pub refuses_found : {good : ℕ → Type 0} {n k : ℕ} {found : Option ℕ} → Finds good n found → found ≡ Some k → Settled refusal (each number n good ∷ rows) K (refusal number k)
+  refuses_found p e = let f = found_some p e in refuses_at f.0 f.1
+
+  pub passes_found : {good : ℕ → Type 0} {n : ℕ} {found : Option ℕ} {r : R} → Finds good n found → found ≡ None → Settled refusal rows K r → Settled refusal (each number n good ∷ rows) K r
+  passes_found p e q = passes_each (found_not p e) (le_refl _) q
 
   pub refuses : {P : Type 0} → (P → ⊥) → Settled refusal (whole number P ∷ rows) K (refusal number 0)
   refuses n = refuses_at (record { within = omega arith; before = λ j l. absurd (omega arith); found = λ l p. n p }) (omega arith)

@@ -1,14 +1,13 @@
 -- Laws of the layout: what the sections of an image are, and how their checks become the reader's.
-use Rattle.std.specs.Prelude.{ℕ, zero, suc, ◌+◌, ◌-◌, ◌*◌, ◌/◌, ◌≤◌, ◌<◌, List, ◌∷◌, ◌≡◌, refl, length, get_or}
-use Rattle.std.proofs.Common.{sym, ap, ap₂, subst₂, ◌∙◌, length-take, length-drop, add_assoc, add_comm, zero-add, arith}
+use Rattle.std.specs.Prelude.{ℕ, zero, suc, ◌+◌, ◌-◌, ◌*◌, ◌/◌, ◌≤◌, ◌<◌, List, ◌∷◌, ◌≡◌, length, get_or, Result}
+use Rattle.std.proofs.Common.{sym, ap, ap₂, subst, subst₂, ◌∙◌, length-take, length-drop, add_assoc, add_comm, zero-add, arith}
 use Rattle.std.proofs.Math.Nat.{add-mul-div_left, div-eq_of_lt, lt-div-mul-add}
 use Rattle.answer.specs.Reply.{Reply, accepted, refused}
+use Rattle.answer.specs.declared.Refusal.{Refusal}
 use Rattle.answer.specs.Table.{whole, Settled, Clears}
-use Rattle.answer.specs.Laws.{not_refused, settled_one, passes, onward, after, ends, fact}
-use Rattle.layout.specs.Checked.{told, Checks}
-use Rattle.layout.specs.declared.Checked.{Checked}
-use Rattle.layout.specs.declared.Checked.TheVariants.{Sound, Unsound}
-use Rattle.layout.specs.Layout.{Sizes, word, part, runs_at, line_at, runs_in, Fields}
+use Rattle.answer.specs.Laws.{replied_one, settled_one, passes, onward, after, ends, fact}
+use Rattle.layout.specs.Checked.{Checks}
+use Rattle.layout.specs.Layout.{Sizes, sizes, word, part, runs_at, line_at, runs_in, Fields}
 use Rattle.layout.specs.Rows.{Listed, Numbers, Laid, Good, field_rows, sound_rows, fields_of, Heading, heading_of, read_rows}
 
 -- where all of m runs are good, their records are all there
@@ -93,6 +92,13 @@ module _ (z : Sizes) (sized : 0 < z.run) where
   fields_sound s c = let laid = fact c.1.1.0 in
       subst₂ (λ (n m : ℕ). Clears (whole 2 (Numbers n m) ∷ field_rows z n m (fields_of z s))) (sym (places_length s laid)) (sym (runs_count s laid)) (c.1.0, c.1.1.1)
 
+-- the check's table at the number of runs as it was counted
+pub as_counted : (f : Fields) {m : ℕ} {r : Reply (Unit {0})} → m ≡ runs_in sizes f.runs
+    → Settled refused (whole 2 (Numbers (length f.places) m) ∷ field_rows sizes (length f.places) m f) (λ s. s ≡ accepted tt) r
+    → Settled refused (sound_rows sizes f) (λ s. s ≡ accepted tt) r
+as_counted f {r = r} e p =
+    subst (λ (m : ℕ). Settled refused (whole 2 (Numbers (length f.places) m) ∷ field_rows sizes (length f.places) m f) (λ s. s ≡ accepted tt) r) e p
+
 -- ---- fields without a fault
 module _ (z : Sizes) (sized : 0 < z.run) (f : Fields) (sound : Clears (sound_rows z f)) where
   -- the run section is made of whole records
@@ -108,11 +114,5 @@ module _ (z : Sizes) (sized : 0 < z.run) (f : Fields) (sound : Clears (sound_row
   counts = fact sound.0
 
 -- ---- any two replies of the check are equal
-pub told_one : (a b : Checked) → told a ≡ told b → a ≡ b
-told_one Sound Sound e = refl
-told_one Sound (Unsound i j) e = absurd (not_refused e)
-told_one (Unsound i j) Sound e = absurd (not_refused (sym e))
-told_one (Unsound i j) (Unsound i' j') e = cc
-
-pub checks_one : (f : Fields) (a b : Checked) → Checks f a → Checks f b → a ≡ b
-checks_one f a b p q = told_one a b (settled_one (λ r s h k. h ∙ sym k) p q)
+pub checks_one : (f : Fields) (a b : Result (Unit {0}) Refusal) → Checks f a → Checks f b → a ≡ b
+checks_one f a b p q = replied_one (λ x y e. e) a b (settled_one (λ r s h k. h ∙ sym k) p q)

@@ -2,38 +2,36 @@
 #![tactic(auto)]
 
 ghost use Rattle.std.specs.Prelude.{◌≡◌, ◌+◌, ◌*◌, ◌≤◌, ◌<◌, length};
-ghost use Rattle.answer.specs.Table.{First, Decides};
-ghost use Rattle.layout.specs.Layout.{sizes, Shows, line_four_bytes, over_at};
+ghost use Rattle.answer.specs.Table.{Finds, Decides};
+ghost use Rattle.layout.specs.Layout.{sizes, runs_in, Shows, line_four_bytes, over_at};
 ghost use Rattle.layout.specs.Rows.{Numbers, Place, Good, Fresh};
 ghost use Rattle.layout.specs.Checked.{Checks};
 
-use answer::Range;
+use answer::{Range, Refusal};
 
 // The bytes of the table of contents, and of one run.
 pub const CONTENTS: usize = 20;
 
 pub const RUN: usize = 5;
 
+// How many places and runs a form may have.
+const MOST_PLACES: usize = 256;
+
+const MOST_RUNS: usize = 1024;
+
 // One run: its ends and its state.
-#[derive(Clone, Copy)]
+#[derive(Clone, Copy, Debug, PartialEq, Eq)]
 pub struct Run {
     pub u: usize,
     pub v: usize,
     pub state: u8,
 }
 
-// What a look at a form's fields finds.
-#[derive(Clone, Copy)]
-pub enum Checked {
-    Sound,
-    Unsound { number: u16, place: u16 },
-}
-
 // The 16 bits of two bytes.
 pub fn word(low: u8, high: u8) -> u16
     ensures { result ≡ low + 256 * high }
 {
-    low as u16 + 256 * (high as u16)
+    u16::from_le_bytes([low, high])
 }
 
 // Run r of a run section.
@@ -43,55 +41,44 @@ pub fn run_at(runs: &[u8], r: usize) -> Run
 {
     let at = RUN * r;
     Run {
-        u: word(runs[at], runs[at + 1]) as usize,
-        v: word(runs[at + 2], runs[at + 3]) as usize,
+        u: usize::from(word(runs[at], runs[at + 1])),
+        v: usize::from(word(runs[at + 2], runs[at + 3])),
         state: runs[at + 4],
     }
+}
+
+// How many runs the bytes of a run section hold, a torn last one counted.
+pub fn count(runs: &[u8]) -> usize
+    ensures { result ≡ runs_in sizes runs.now }
+{
+    runs.len().div_ceil(RUN)
 }
 
 // Number 2: whether a form may have n places and m runs.
 pub fn numbers(n: usize, m: usize) -> bool
     ensures { Decides (Numbers n m) result }
 {
-    if n == 0 {
-        return false;
-    }
-    if 256 < n {
-        return false;
-    }
-    if 1024 < m {
-        return false;
-    }
-    true
+    1 <= n && n <= MOST_PLACES && m <= MOST_RUNS
 }
 
 // Number 4: the first place whose byte is above 1.
-fn first_bad_place(places: &[u8]) -> usize
-    ensures { First (Place places.now) (length places.now) result }
+fn first_bad_place(places: &[u8]) -> Option<usize>
+    ensures { Finds (Place places.now) (length places.now) result }
 {
-    let mut k = 0;
-    while k < places.len() {
-        if 1 < places[k] {
-            return k;
-        }
-        k += 1;
-    }
-    k
+    places.iter().position(|supply| 1 < *supply)
 }
 
 // Number 5: the first run whose record is torn or out of range.
-fn first_bad_run(runs: &[u8], n: usize, m: usize) -> usize
+fn first_bad_run(runs: &[u8], n: usize, m: usize) -> Option<usize>
     requires { m ≤ 1024 }
-    ensures { First (Good sizes n runs.now) m result }
+    ensures { Finds (Good sizes n runs.now) m result }
 {
-    let mut r = 0;
-    while r < m {
+    for r in 0..m {
         if !good_run(runs, n, r) {
-            return r;
+            return Some(r);
         }
-        r += 1;
     }
-    r
+    None
 }
 
 fn good_run(runs: &[u8], n: usize, r: usize) -> bool
@@ -101,94 +88,63 @@ fn good_run(runs: &[u8], n: usize, r: usize) -> bool
     if runs.len() < RUN * r + RUN {
         return false;
     }
-    let run = run_at(runs, r);
-    if run.v <= run.u {
-        return false;
-    }
-    if n <= run.v {
-        return false;
-    }
-    if 2 < run.state {
-        return false;
-    }
-    true
+    let Run { u, v, state } = run_at(runs, r);
+    u < v && v < n && state <= 2
 }
 
 // Number 6: the first run with the ends of an earlier one. The search goes no further through either list.
-fn first_repeat(runs: &[u8], m: usize) -> usize
+fn first_repeat(runs: &[u8], m: usize) -> Option<usize>
     requires { 5 * m ≤ length runs.now }
-    ensures { First (Fresh sizes runs.now) m result }
+    ensures { Finds (Fresh sizes runs.now) m result }
 {
-    let mut later = 0;
-    'search: while later < m {
-        let new = run_at(runs, later);
-        let mut earlier = 0;
-        while earlier < later {
-            let old = run_at(runs, earlier);
-            if old.u == new.u {
-                if old.v == new.v {
-                    break 'search;
+    'search: {
+        for later in 0..m {
+            let new = run_at(runs, later);
+            for earlier in 0..later {
+                let old = run_at(runs, earlier);
+                if old.u == new.u && old.v == new.v {
+                    break 'search Some(later);
                 }
             }
-            earlier += 1;
         }
-        later += 1;
+        None
     }
-    later
 }
 
 // Numbers 2 and 4 to 7, in their order, of a byte for each place, the records of the runs, and line four.
-pub fn check(places: &[u8], runs: &[u8], line: Range) -> Checked
+pub fn check(places: &[u8], runs: &[u8], line: Range) -> Result<(), Refusal>
     ensures { Checks (record { places = places.now; runs = runs.now; low = line.low; high = line.high }) result }
 {
     let n = places.len();
-    let m = (runs.len() + (RUN - 1)) / RUN;
+    let m = count(runs);
     if !numbers(n, m) {
-        return Checked::Unsound {
-            number: 2,
-            place: 0,
-        };
+        return Err(Refusal::WrongNumbers);
     }
-    let place = first_bad_place(places);
-    if place < n {
-        return Checked::Unsound {
-            number: 4,
-            place: place as u16,
-        };
+    if let Some(place) = first_bad_place(places) {
+        let place = place as u16;
+        return Err(Refusal::BadPlace { place });
     }
-    let run = first_bad_run(runs, n, m);
-    if run < m {
-        return Checked::Unsound {
-            number: 5,
-            place: run as u16,
-        };
+    if let Some(run) = first_bad_run(runs, n, m) {
+        let run = run as u16;
+        return Err(Refusal::BadRun { run });
     }
-    let again = first_repeat(runs, m);
-    if again < m {
-        return Checked::Unsound {
-            number: 6,
-            place: again as u16,
-        };
+    if let Some(run) = first_repeat(runs, m) {
+        let run = run as u16;
+        return Err(Refusal::RepeatedRun { run });
     }
     if line.high < line.low {
-        return Checked::Unsound {
-            number: 7,
-            place: 0,
-        };
+        return Err(Refusal::LowAboveHigh);
     }
-    Checked::Sound
+    Ok(())
 }
 
 // The bytes of line four.
 pub fn line_four(line: Range) -> [u8; 4]
     ensures { result ≡ line_four_bytes line.low line.high }
 {
-    [
-        (line.low % 256) as u8,
-        (line.low / 256) as u8,
-        (line.high % 256) as u8,
-        (line.high / 256) as u8,
-    ]
+    let [a, b] = line.low.to_le_bytes();
+    let [c, d] = line.high.to_le_bytes();
+    [a, b, c, d]
 }
 
 // Writes src into the buffer from at on.
@@ -196,7 +152,7 @@ pub fn put(src: &[u8], form: &mut [u8], at: usize)
     requires { at + length src.now ≤ length form.old }
     ensures { form.new ≡ over_at at src.now form.old }
 {
-    for i in 0..src.len() {
-        form[at + i] = src[i];
+    for (i, byte) in src.iter().enumerate() {
+        form[at + i] = *byte;
     }
 }

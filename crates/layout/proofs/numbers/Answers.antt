@@ -1,16 +1,14 @@
 -- `numbers` tells what number 2 asks.
 use Rattle.std.proofs.Common.{arith}
-use Rattle.answer.specs.Table.{holds, fails}
+use Rattle.answer.specs.Laws.{decides_le}
 use Rattle.layout.proofs.numbers.Goals as goal
+use Rattle.layout.proofs.numbers.Goals.{then-n-ge1, else-n-ge1}
 
-pub returns-then-n-eq0 : goal.returns-then-n-eq0
-returns-then-n-eq0 c = fails (λ h. omega arith)
+pub returns-then-n-le-MOST_PLACES : goal.returns-then-n-le-MOST_PLACES
+returns-then-n-le-MOST_PLACES c = decides_le _ _ (λ l. omega arith) (λ h. omega arith)
 
-pub returns-then-n-gt256 : goal.returns-then-n-gt256
-returns-then-n-gt256 c = fails (λ h. omega arith)
-
-pub returns-then-m-gt1024 : goal.returns-then-m-gt1024
-returns-then-m-gt1024 c = fails (λ h. omega arith)
-
-pub returns : goal.returns
-returns c = holds (omega arith)
+pub returns-else-n-le-MOST_PLACES : goal.returns-else-n-le-MOST_PLACES
+returns-else-n-le-MOST_PLACES c = elim c.if-n-ge1.branch [
+  | then-n-ge1 w ↦ rw w.t-4-is (decides_le _ _ (λ l. absurd (omega arith)) (λ h. omega arith))
+  | else-n-ge1 w ↦ rw w.t-4-is (decides_le _ _ (λ l. absurd (omega arith)) (λ h. omega arith))
+]
