@@ -1,9 +1,10 @@
 -- Laws of the table of refusals: how code that goes through the rows settles an outcome, and that any two outcomes are equal.
-use Rattle.std.specs.Prelude.{ℕ, ◌+◌, ◌≤◌, ◌<◌, eqb, Bool, true, false, cond, List, [], ◌∷◌, ◌++◌, ◌⊎◌, ◌≡◌, refl, length, get_or, Option, Some, None, Result, Ok, Err}
+use Rattle.std.specs.Prelude.{ℕ, ◌+◌, ◌≤◌, ◌<◌, eqb, Bool, true, false, cond, List, [], ◌∷◌, ◌++◌, ◌⊎◌, ◌≡◌, refl, length, get_or, Option, Some, None, Result, Ok, Err, IsErrAnd}
 use Rattle.std.specs.List.{position, position_or_len}
 use Rattle.std.proofs.lemmas.Bool.{leb-true, leb-false, ltb-true, ltb-false}
 use Rattle.std.proofs.lemmas.List.Sums.{fails_before_first, passes_at_first, prefix_len-le-length}
 use Rattle.std.proofs.Math.Dec.{leb, ltb}
+use Rattle.std.proofs.lemmas.Result.{err_from_is_err_and}
 use Rattle.std.proofs.Common.{inl, inr, ⊎_elim, sym, subst, ◌∙◌, ap, ap₂, below_more, le_refl, arith}
 use Rattle.std.proofs.Math.Decide.{dec_lt}
 use Rattle.answer.specs.Reply.{Reply, accepted, refused, number_of, place_of, replied}
@@ -160,6 +161,14 @@ module _ {A B : Type 0} {says : A → B} (one : (a b : A) → says a ≡ says b 
   replied_one (Ok a) (Err f) e = absurd (not_refused e)
   replied_one (Err f) (Ok b) e = absurd (not_refused (sym e))
   replied_one (Err f) (Err g) e = ap Err (refusal_one f g (refused_one e).0 (refused_one e).1)
+
+-- what `?` hands on is the refusal that came, and on paper it says the same
+pub handed_on : {B : Type 0} {e : Refusal} (r : Result B Refusal) → IsErrAnd r (λ y. y ≡ e) → r ≡ Err e
+handed_on r h = let p = err_from_is_err_and r h in p.1 ∙ ap Err p.2
+
+pub refused_as : {A A' B B' : Type 0} (says : A → A') (says' : B → B') {r : Result A Refusal} {s : Result B Refusal} {e : Refusal}
+    → r ≡ Err e → s ≡ Err e → (number k : ℕ) → replied says r ≡ refused number k → replied says' s ≡ refused number k
+refused_as says says' p q number k h = ap (replied says') q ∙ as_refused (sym (ap (replied says) p) ∙ h)
 
 -- ---- any two outcomes of a table are equal, where the last word allows one only once no row has a fault
 module _ {R : Type 0} (refusal : ℕ → ℕ → R) (K : R → Type 0) where

@@ -1,16 +1,15 @@
 -- What a reading shows of its image, whichever way the reader came to it; and that it is the only one.
-use Rattle.std.specs.Prelude.{ℕ, List, [], ◌≡◌, refl, length}
+use Rattle.std.specs.Prelude.{ℕ, List, [], ◌≡◌, refl, length, Result, Ok, Err}
 use Rattle.std.proofs.Common.{sym, ap, ◌∙◌, arith}
-use Rattle.answer.specs.Laws.{not_refused, accepted_one, settled_one, onward, cleared, all_clear, fact}
+use Rattle.answer.specs.Laws.{not_refused, accepted_one, replied_one, settled_one, onward, cleared, all_clear, fact}
 use Rattle.answer.specs.Reply.{accepted}
 use Rattle.answer.specs.Table.{Clears}
 use Rattle.layout.specs.Layout.{sizes, word, length_of, Fields}
 use Rattle.layout.proofs.Laws.{taken, taken_is}
 use Rattle.layout.specs.Rows.{Numbers, Heading, heading_of, fields_of, read_rows}
-use Rattle.reader.specs.Reading.{told, Reads, Section}
-use Rattle.reader.specs.declared.Reading.{Reading}
-use Rattle.reader.specs.declared.Reading.TheVariants.{Form, Refused}
-use Rattle.answer.specs.declared.Range.{Range}
+use Rattle.reader.specs.Reading.{heading, told, Reads, Section}
+use Rattle.reader.specs.declared.Form.{Form}
+use Rattle.answer.specs.declared.Refusal.{Refusal}
 
 -- ---- an image that is read as a form with n places and m runs
 pub record Valid (s : List ℕ) (n m low high : ℕ) : Type 0 where
@@ -22,8 +21,8 @@ pub record Valid (s : List ℕ) (n m low high : ℕ) : Type 0 where
   pub from : low ≡ (fields_of sizes s).low
   pub to : high ≡ (fields_of sizes s).high
 
-pub valid : {s : List ℕ} {r : Reading} {n m : ℕ} {line : Range} → Reads s r → r ≡ Form n m line → Valid s n m line.low line.high
-valid {s} {r} {n} {m} {line} p e =
+pub valid : {s : List ℕ} {r : Result Form Refusal} {f : Form} → Reads s r → r ≡ Ok f → Valid s f.places f.runs f.line.low f.line.high
+valid {s} {r} {f} p e =
     record {
       clears = c.0;
       numbers = omega (arith, places, runs, fact c.0.1.0);
@@ -35,34 +34,30 @@ valid {s} {r} {n} {m} {line} p e =
     }
   where
     c : Clears (read_rows sizes s) × (told r ≡ accepted (heading_of sizes s))
-    c = cleared p (λ number k f. not_refused (sym (ap told e) ∙ f))
+    c = cleared p (λ number k g. not_refused (sym (ap told e) ∙ g))
 
-    shown : record { places = n; runs = m; low = line.low; high = line.high } ≡ heading_of sizes s
+    shown : heading f ≡ heading_of sizes s
     shown = accepted_one (sym (ap told e) ∙ c.1)
 
-    places : n ≡ word s 6
+    places : f.places ≡ word s 6
     places = ap (λ (h : Heading). h.places) shown
 
-    runs : m ≡ word s 12
+    runs : f.runs ≡ word s 12
     runs = ap (λ (h : Heading). h.runs) shown
 
 -- ---- the sections of an image
-pub no_section : {s : List ℕ} {r : Reading} {i j : ℕ} (field : Fields → List ℕ) → Reads s r → r ≡ Refused i j → Section field s []
+pub no_section : {s : List ℕ} {r : Result Form Refusal} {refusal : Refusal} (field : Fields → List ℕ) → Reads s r → r ≡ Err refusal → Section field s []
 no_section field p e = onward p (λ number k _. refl) (λ a. absurd (not_refused (sym a ∙ ap told e)))
 
 pub a_section : {s : List ℕ} {n m low high : ℕ} (field : Fields → List ℕ) → Valid s n m low high → Section field s (field (taken sizes s n m))
 a_section {s} field v = all_clear (read_rows sizes s) v.clears (ap field (taken_is sizes s v.places v.runs))
 
 -- ---- any two readings of an image are equal
-told_one : (a b : Reading) → told a ≡ told b → a ≡ b
-told_one (Form n m l) (Form n' m' l') e =
-    let h = accepted_one e in λ i. Form (h i).places (h i).runs (record { low = (h i).low; high = (h i).high })
-told_one (Form n m l) (Refused i j) e = absurd (not_refused e)
-told_one (Refused i j) (Form n m l) e = absurd (not_refused (sym e))
-told_one (Refused i j) (Refused i' j') e = cc
+heading_one : (f g : Form) → heading f ≡ heading g → f ≡ g
+heading_one f g e = λ i. record { places = (e i).places; runs = (e i).runs; line = record { low = (e i).low; high = (e i).high } }
 
-pub reads_one : {s : List ℕ} (a b : Reading) → Reads s a → Reads s b → a ≡ b
-reads_one a b p q = told_one a b (settled_one (λ r s h k. h ∙ sym k) p q)
+pub reads_one : {s : List ℕ} (a b : Result Form Refusal) → Reads s a → Reads s b → a ≡ b
+reads_one a b p q = replied_one heading_one a b (settled_one (λ r s h k. h ∙ sym k) p q)
 
 pub section_one : (field : Fields → List ℕ) {s a b : List ℕ} → Section field s a → Section field s b → a ≡ b
 section_one field p q = settled_one (λ r s h k. h ∙ sym k) p q

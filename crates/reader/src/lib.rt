@@ -7,21 +7,15 @@ ghost use Rattle.layout.specs.Layout.{sizes};
 ghost use Rattle.layout.specs.Rows.{Listed, Numbers, Laid};
 ghost use Rattle.reader.specs.Reading.{Reads, Places, Runs};
 
-use answer::Range;
-use layout::{CONTENTS, Checked, RUN, word};
+use answer::{Range, Refusal};
+use layout::{CONTENTS, RUN, word};
 
-// A form, with its numbers of places and runs and line four; or refused, with number and place.
-#[derive(Clone, Copy)]
-pub enum Reading {
-    Form {
-        places: usize,
-        runs: usize,
-        line: Range,
-    },
-    Refused {
-        number: u16,
-        place: u16,
-    },
+// A form: how many places and runs it has, and line four.
+#[derive(Clone, Copy, Debug, PartialEq, Eq)]
+pub struct Form {
+    pub places: usize,
+    pub runs: usize,
+    pub line: Range,
 }
 
 // Number 1: whether the table of contents is there and names the three parts in their order.
@@ -57,13 +51,13 @@ fn laid(image: &[u8], n: usize, m: usize) -> bool
 {
     let runs_at = CONTENTS + n;
     let line_at = runs_at + RUN * m;
-    if word(image[4], image[5]) as usize != CONTENTS {
+    if usize::from(word(image[4], image[5])) != CONTENTS {
         return false;
     }
-    if word(image[10], image[11]) as usize != runs_at {
+    if usize::from(word(image[10], image[11])) != runs_at {
         return false;
     }
-    if word(image[16], image[17]) as usize != line_at {
+    if usize::from(word(image[16], image[17])) != line_at {
         return false;
     }
     if image.len() != line_at + 4 {
@@ -72,75 +66,50 @@ fn laid(image: &[u8], n: usize, m: usize) -> bool
     true
 }
 
-pub fn read(image: &[u8]) -> Reading
+// The form, or the first of numbers 1 to 7 that refuses it.
+pub fn read(image: &[u8]) -> Result<Form, Refusal>
     ensures { Reads image.now result }
 {
     if !listed(image) {
-        return Reading::Refused {
-            number: 1,
-            place: 0,
-        };
+        return Err(Refusal::NoContents);
     }
-    let n = word(image[6], image[7]) as usize;
-    let m = word(image[12], image[13]) as usize;
-    if !layout::numbers(n, m) {
-        return Reading::Refused {
-            number: 2,
-            place: 0,
-        };
+    let places = usize::from(word(image[6], image[7]));
+    let runs = usize::from(word(image[12], image[13]));
+    if !layout::numbers(places, runs) {
+        return Err(Refusal::WrongNumbers);
     }
-    if !laid(image, n, m) {
-        return Reading::Refused {
-            number: 3,
-            place: 0,
-        };
+    if !laid(image, places, runs) {
+        return Err(Refusal::WrongLayout);
     }
-    let runs_at = CONTENTS + n;
-    let at = runs_at + RUN * m;
+    let runs_at = CONTENTS + places;
+    let at = runs_at + RUN * runs;
     let line = Range {
         low: word(image[at], image[at + 1]),
         high: word(image[at + 2], image[at + 3]),
     };
-    let checked = layout::check(&image[CONTENTS..runs_at], &image[runs_at..at], line);
-    match checked {
-        Checked::Sound => Reading::Form {
-            places: n,
-            runs: m,
-            line,
-        },
-        Checked::Unsound { number, place } => Reading::Refused { number, place },
-    }
+    layout::check(&image[CONTENTS..runs_at], &image[runs_at..at], line)?;
+    Ok(Form { places, runs, line })
 }
 
 // The byte of each place, as the part of the image that holds them; empty where the image is refused.
 pub fn place_section(image: &[u8]) -> &[u8]
     ensures { Places image.now result.now }
 {
-    let reading = read(image);
-    let Reading::Form {
-        places,
-        runs: _,
-        line: _,
-    } = reading
-    else {
-        return &image[..0];
-    };
-    &image[CONTENTS..CONTENTS + places]
+    match read(image) {
+        Ok(form) => &image[CONTENTS..CONTENTS + form.places],
+        Err(_) => &image[..0],
+    }
 }
 
 // The run records, as the part of the image that holds them; empty where the image is refused.
 pub fn run_section(image: &[u8]) -> &[u8]
     ensures { Runs image.now result.now }
 {
-    let reading = read(image);
-    let Reading::Form {
-        places,
-        runs,
-        line: _,
-    } = reading
-    else {
-        return &image[..0];
-    };
-    let start = CONTENTS + places;
-    &image[start..start + RUN * runs]
+    match read(image) {
+        Ok(form) => {
+            let start = CONTENTS + form.places;
+            &image[start..start + RUN * form.runs]
+        }
+        Err(_) => &image[..0],
+    }
 }

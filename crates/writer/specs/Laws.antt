@@ -1,21 +1,19 @@
 -- How the check of the fields, the look at the buffer and the copying settle what the writer leaves; and that nothing else is allowed.
-use Rattle.std.specs.Prelude.{ℕ, ◌+◌, ◌*◌, ◌≤◌, List, [], ◌++◌, ◌≡◌, refl, length}
+use Rattle.std.specs.Prelude.{ℕ, ◌+◌, ◌*◌, ◌≤◌, List, [], ◌++◌, ◌≡◌, refl, length, Result, Ok, Err}
 use Rattle.std.proofs.Common.{sym, ap, ap₂, ◌∙◌}
-use Rattle.answer.specs.Laws.{not_refused, settled_one, refuses, passes, ends, onward, cleared}
-use Rattle.answer.specs.Reply.{Reply, accepted, refused}
+use Rattle.answer.specs.Laws.{not_refused, replied_one, settled_one, refuses, passes, ends, onward, cleared}
+use Rattle.answer.specs.Reply.{Reply, accepted, refused, number_of, place_of}
 use Rattle.answer.specs.Table.{Clears}
 use Rattle.layout.specs.Checked.{told as checked, Checks}
-use Rattle.layout.specs.declared.Checked.{Checked}
-use Rattle.layout.specs.declared.Checked.TheVariants.{Sound, Unsound}
+use Rattle.answer.specs.declared.Refusal.{Refusal}
 use Rattle.layout.specs.Layout.{sizes, line_at, runs_in, Fields, length_for, line_four_bytes, image, over, over_at}
 use Rattle.layout.proofs.Image.{head, up_to_runs, up_to_line, over_more}
 use Rattle.layout.specs.Rows.{sound_rows}
-use Rattle.writer.specs.Writing.{told, Left, Leaves, Writes}
-use Rattle.writer.specs.declared.Writing.{Writing}
-use Rattle.writer.specs.declared.Writing.TheVariants.{Written, Refused}
+use Rattle.writer.specs.Writing.{Left, Leaves, Writes}
 
 -- ---- the three ways out
-pub unsound : (f : Fields) (before : List ℕ) {r : Checked} {i j : ℕ} → Checks f r → r ≡ Unsound i j → Leaves f before (record { reply = refused i j; form = before })
+pub unsound : (f : Fields) (before : List ℕ) {r : Result (Unit {0}) Refusal} {e : Refusal} → Checks f r → r ≡ Err e
+    → Leaves f before (record { reply = refused (number_of e) (place_of e); form = before })
 unsound f before p e =
     onward p (λ number k h. ap (λ (x : Reply (Unit {0})). left x) (sym (ap checked e) ∙ h)) (λ a. absurd (not_refused (sym a ∙ ap checked e)))
   where
@@ -23,7 +21,7 @@ unsound f before p e =
     left (accepted a) = record { reply = accepted 0; form = before }
     left (refused i j) = record { reply = refused i j; form = before }
 
-module _ (f : Fields) (before : List ℕ) {r : Checked} (p : Checks f r) (e : r ≡ Sound) where
+module _ (f : Fields) (before : List ℕ) {r : Result (Unit {0}) Refusal} (p : Checks f r) (e : r ≡ Ok tt) where
   pub sound : Clears (sound_rows sizes f)
   sound = (cleared p (λ number k h. not_refused (sym (ap checked e) ∙ h))).0
 
@@ -56,13 +54,7 @@ module _ (f : Fields) (wholes : length f.runs ≡ 5 * runs_in sizes f.runs) wher
           ∙ over_more (head f ++ f.places) f.runs before (20 + length f.places) (up_to_runs f)
 
 -- ---- any two outcomes of a call are equal, the reply and every byte
-told_one : (a b : Writing) → told a ≡ told b → a ≡ b
-told_one (Written n) (Written n') e = cc
-told_one (Written n) (Refused i j) e = absurd (not_refused e)
-told_one (Refused i j) (Written n) e = absurd (not_refused (sym e))
-told_one (Refused i j) (Refused i' j') e = cc
-
-pub writes_one : (f : Fields) (before : List ℕ) (a b : Writing) (x y : List ℕ) → Writes f before a x → Writes f before b y → (a ≡ b) × (x ≡ y)
+pub writes_one : (f : Fields) (before : List ℕ) (a b : Result ℕ Refusal) (x y : List ℕ) → Writes f before a x → Writes f before b y → (a ≡ b) × (x ≡ y)
 writes_one f before a b x y p q =
     let same = settled_one (λ r s h k. h ∙ sym k) p q in
-    (told_one a b (ap (λ (l : Left). l.reply) same), ap (λ (l : Left). l.form) same)
+    (replied_one (λ x y e. e) a b (ap (λ (l : Left). l.reply) same), ap (λ (l : Left). l.form) same)

@@ -1,16 +1,14 @@
 -- What the writer promises, in the paper's terms: its reply and every byte of the lent buffer.
-use Rattle.std.specs.Prelude.{ℕ, List, ◌≡◌, length}
-use Rattle.answer.specs.Reply.{Reply, accepted, refused}
+use Rattle.std.specs.Prelude.{ℕ, List, ◌≡◌, length, Result}
+use Rattle.answer.specs.Reply.{Reply, accepted, refused, replied}
+use Rattle.answer.specs.declared.Refusal.{Refusal}
 use Rattle.answer.specs.Table.{Settled}
 use Rattle.layout.specs.Layout.{sizes, Fields, image, over}
 use Rattle.layout.specs.Rows.{write_rows}
-use Rattle.writer.specs.declared.Writing.{Writing}
-use Rattle.writer.specs.declared.Writing.TheVariants.{Written, Refused}
 
 -- the paper's number and values for each case: the length of a written form
-abbrev pub told : Writing → Reply ℕ
-told (Written length) = accepted length
-told (Refused number place) = refused number place
+abbrev pub told : Result ℕ Refusal → Reply ℕ
+told = replied (λ length. length)
 
 -- what a call leaves: its reply, and the lent buffer
 pub record Left : Type 0 where
@@ -25,5 +23,5 @@ Leaves f before =
     (write_rows sizes f (length before))
     (λ left. left ≡ record { reply = accepted (length (image sizes f)); form = over (image sizes f) before })
 
-abbrev pub Writes : Fields → List ℕ → Writing → List ℕ → Type 0
+abbrev pub Writes : Fields → List ℕ → Result ℕ Refusal → List ℕ → Type 0
 Writes f before r after = Leaves f before (record { reply = told r; form = after })

@@ -6,15 +6,8 @@ ghost use Rattle.layout.specs.Layout.{sizes, contents};
 ghost use Rattle.layout.specs.Rows.{Numbers};
 ghost use Rattle.writer.specs.Writing.{Writes};
 
-use answer::Range;
-use layout::{CONTENTS, Checked, RUN};
-
-// Written, with the length of the form; or refused, with number and place.
-#[derive(Clone, Copy)]
-pub enum Writing {
-    Written { length: usize },
-    Refused { number: u16, place: u16 },
-}
+use answer::{Range, Refusal};
+use layout::{CONTENTS, RUN};
 
 fn table_of_contents(n: usize, m: usize) -> [u8; 20]
     requires { Numbers n m }
@@ -22,6 +15,10 @@ fn table_of_contents(n: usize, m: usize) -> [u8; 20]
 {
     let runs_at = CONTENTS + n;
     let line_at = runs_at + RUN * m;
+    let [n_low, n_high] = (n as u16).to_le_bytes();
+    let [runs_low, runs_high] = (runs_at as u16).to_le_bytes();
+    let [m_low, m_high] = (m as u16).to_le_bytes();
+    let [line_low, line_high] = (line_at as u16).to_le_bytes();
     [
         3,
         0,
@@ -29,41 +26,35 @@ fn table_of_contents(n: usize, m: usize) -> [u8; 20]
         0,
         CONTENTS as u8,
         0,
-        (n % 256) as u8,
-        (n / 256) as u8,
+        n_low,
+        n_high,
         2,
         0,
-        (runs_at % 256) as u8,
-        (runs_at / 256) as u8,
-        (m % 256) as u8,
-        (m / 256) as u8,
+        runs_low,
+        runs_high,
+        m_low,
+        m_high,
         3,
         0,
-        (line_at % 256) as u8,
-        (line_at / 256) as u8,
+        line_low,
+        line_high,
         1,
         0,
     ]
 }
 
-// Writes the form of these places, runs and line four at the start of the lent buffer, and keeps the rest of it.
-pub fn write(places: &[u8], runs: &[u8], line: Range, form: &mut [u8]) -> Writing
+// Writes the form of these places, runs and line four at the start of the lent buffer, and keeps the rest of it. Returns the form's length.
+pub fn write(places: &[u8], runs: &[u8], line: Range, form: &mut [u8]) -> Result<usize, Refusal>
     ensures { Writes (record { places = places.now; runs = runs.now; low = line.low; high = line.high }) form.old result form.new }
 {
-    let checked = layout::check(places, runs, line);
-    if let Checked::Unsound { number, place } = checked {
-        return Writing::Refused { number, place };
-    }
+    layout::check(places, runs, line)?;
     let n = places.len();
     let m = runs.len() / RUN;
     let runs_at = CONTENTS + n;
     let line_at = runs_at + RUN * m;
     let length = line_at + 4;
     if form.len() < length {
-        return Writing::Refused {
-            number: 8,
-            place: 0,
-        };
+        return Err(Refusal::NoRoom);
     }
     let contents = table_of_contents(n, m);
     let four = layout::line_four(line);
@@ -71,5 +62,5 @@ pub fn write(places: &[u8], runs: &[u8], line: Range, form: &mut [u8]) -> Writin
     layout::put(places, form, CONTENTS);
     layout::put(runs, form, runs_at);
     layout::put(&four, form, line_at);
-    Writing::Written { length }
+    Ok(length)
 }

@@ -3,14 +3,14 @@ use Rattle.std.proofs.Common.{arith}
 use Rattle.answer.specs.Table.{holds, fails}
 use Rattle.reader.proofs.laid.Goals as goal
 
-pub returns-then-word-ne-CONTENTS : goal.returns-then-word-ne-CONTENTS
-returns-then-word-ne-CONTENTS c = fails (λ h. omega arith)
+pub returns-then-from-ne-CONTENTS : goal.returns-then-from-ne-CONTENTS
+returns-then-from-ne-CONTENTS c = fails (λ h. omega arith)
 
-pub returns-then-word-runs_at : goal.returns-then-word-runs_at
-returns-then-word-runs_at c = fails (λ h. omega arith)
+pub returns-then-from-runs_at : goal.returns-then-from-runs_at
+returns-then-from-runs_at c = fails (λ h. omega arith)
 
-pub returns-then-word-line_at : goal.returns-then-word-line_at
-returns-then-word-line_at c = fails (λ h. omega arith)
+pub returns-then-from-line_at : goal.returns-then-from-line_at
+returns-then-from-line_at c = fails (λ h. omega arith)
 
 pub returns-then-image-line_at : goal.returns-then-image-line_at
 returns-then-image-line_at c = fails (λ h. omega arith)

@@ -4,14 +4,14 @@ use Rattle.layout.specs.Layout.{Fields}
 use Rattle.reader.specs.Laws.{valid, no_section, a_section}
 use Rattle.reader.proofs.place_section.Goals as goal
 
-pub returns-in_default : goal.returns-in_default
-returns-in_default c = no_section (λ (f : Fields). f.places) c.read-reading.ensures c.in_default.is
+pub returns-in-Err : goal.returns-in-Err
+returns-in-Err c = no_section (λ (f : Fields). f.places) c.read.ensures c.in-Err.is
 
 pub overflow_add-result : goal.overflow_add-result
-overflow_add-result c = let v = valid c.read-reading.ensures c.in-Form.is in omega arith
+overflow_add-result c = let v = valid c.read.ensures c.in-Ok.is in omega arith
 
-pub slice_bounds-result-end-2 : goal.slice_bounds-result-end-2
-slice_bounds-result-end-2 c = let v = valid c.read-reading.ensures c.in-Form.is in omega arith
+pub slice_bounds-result-end : goal.slice_bounds-result-end
+slice_bounds-result-end c = let v = valid c.read.ensures c.in-Ok.is in omega arith
 
-pub returns : goal.returns
-returns c = let v = valid c.read-reading.ensures c.in-Form.is in a_section (λ (f : Fields). f.places) v
+pub returns-in-Ok : goal.returns-in-Ok
+returns-in-Ok c = let v = valid c.read.ensures c.in-Ok.is in a_section (λ (f : Fields). f.places) v
