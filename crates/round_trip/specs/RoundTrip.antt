@@ -1,5 +1,5 @@
 -- 'Reading and writing forms undo each other', of every reply that the contracts of reader and writer allow.
-use Rattle.std.specs.Prelude.{ℕ, ◌≤◌, List, ◌≡◌, refl, length, take, drop}
+use Rattle.std.specs.Prelude.{ℕ, ◌≤◌, List, ◌≡◌, refl, length, take, drop, Result, Ok}
 use Rattle.std.proofs.Common.{sym, ap, ap₂, subst, ◌∙◌, arith}
 use Rattle.std.proofs.Math.Seq.{take-append_seam}
 use Rattle.answer.specs.declared.Range.{Range}
@@ -10,19 +10,17 @@ use Rattle.layout.proofs.Image.{Bytes, fields_back, read_back, n_is, m_is, image
 use Rattle.layout.specs.Layout.{sizes, word, length_of, runs_in, Fields, image, over}
 use Rattle.layout.proofs.Laws.{places_length, runs_count, fields_sound}
 use Rattle.layout.specs.Rows.{Laid, sound_rows, room_row, write_rows, fields_of, Heading, heading_of, read_rows}
-use Rattle.reader.specs.declared.Reading.{Reading}
-use Rattle.reader.specs.declared.Reading.TheVariants.{Form}
+use Rattle.answer.specs.declared.Refusal.{Refusal}
+use Rattle.reader.specs.declared.Form.{Form}
 use Rattle.reader.specs.Laws.{Valid, valid, reads_one, section_one}
 use Rattle.reader.specs.Reading.{Reads, Places, Runs}
-use Rattle.writer.specs.declared.Writing.{Writing}
-use Rattle.writer.specs.declared.Writing.TheVariants.{Written}
 use Rattle.writer.specs.Laws.{writes_one}
 use Rattle.writer.specs.Writing.{Left, Writes}
 
 -- Reading a written form gives the same places, runs and line four.
-pub read_written : (f : Fields) (before after : List ℕ) (size : ℕ) → Writes f before (Written size) after
-    → (r : Reading) (p q : List ℕ) → Reads (take size after) r → Places (take size after) p → Runs (take size after) q
-    → (r ≡ Form (length f.places) (runs_in sizes f.runs) (record { low = f.low; high = f.high })) × (p ≡ f.places) × (q ≡ f.runs)
+pub read_written : (f : Fields) (before after : List ℕ) (size : ℕ) → Writes f before (Ok size) after
+    → (r : Result Form Refusal) (p q : List ℕ) → Reads (take size after) r → Places (take size after) p → Runs (take size after) q
+    → (r ≡ Ok (record { places = length f.places; runs = runs_in sizes f.runs; line = record { low = f.low; high = f.high } })) × (p ≡ f.places) × (q ≡ f.runs)
 read_written f before after size w r p q a b c = (
   reads_one r _ (rw same at a) (all_clear (read_rows sizes s) back (ap accepted heading)),
   section_one (λ (g : Fields). g.places) (rw same at b) (all_clear (read_rows sizes s) back (ap (λ (g : Fields). g.places) (sym fields))),
@@ -53,12 +51,12 @@ read_written f before after size w r p q a b c = (
     heading = λ i. record { places = sym (n_is f) i; runs = sym (m_is f) i; low = (sym fields i).low; high = (sym fields i).high }
 
 -- Writing what was read gives the same bytes, and keeps the rest of the buffer.
-pub write_read : (s : List ℕ) → Bytes s → (n m : ℕ) (line : Range) (p q : List ℕ) → Reads s (Form n m line) → Places s p → Runs s q
-    → (before after : List ℕ) (w : Writing) → length s ≤ length before
+pub write_read : (s : List ℕ) → Bytes s → (n m : ℕ) (line : Range) (p q : List ℕ) → Reads s (Ok (record { places = n; runs = m; line = line })) → Places s p → Runs s q
+    → (before after : List ℕ) (w : Result ℕ Refusal) → length s ≤ length before
     → Writes (record { places = p; runs = q; low = line.low; high = line.high }) before w after
-    → (w ≡ Written (length s)) × (after ≡ over s before)
+    → (w ≡ Ok (length s)) × (after ≡ over s before)
 write_read s small n m line p q a b c before after w fits d =
-    writes_one (fields_of sizes s) before w (Written (length s)) after (over s before) (subst (λ (g : Fields). Writes g before w after) fields d)
+    writes_one (fields_of sizes s) before w (Ok (length s)) after (over s before) (subst (λ (g : Fields). Writes g before w after) fields d)
     (all_clear (write_rows sizes (fields_of sizes s) (length before)) sound
     (λ i. record { reply = accepted (length (sym whole i)); form = over (sym whole i) before }))
   where
