@@ -4,6 +4,8 @@
 ghost use Rattle.std.specs.Prelude.{◌≡◌};
 ghost use Rattle.answer.specs.Reply.{number_of, place_of, both};
 
+use std::fmt;
+
 // The segment counts from low to high, both included; none where high is below low.
 #[derive(Clone, Copy, Debug, PartialEq, Eq)]
 pub struct Range {
@@ -85,5 +87,12 @@ impl Refusal {
                 run,
             _ => 0,
         }
+    }
+}
+
+// As the programs print it.
+impl fmt::Display for Refusal {
+    fn fmt<W: fmt::Write>(&self, f: &mut fmt::Formatter<W>) -> fmt::Result {
+        write!(f, "refused {} {}", self.number(), self.place())
     }
 }
