@@ -69,6 +69,9 @@ found_none g l = record { within = g.within; before = g.before; found = λ m. ab
 pub first_alike : {P Q : ℕ → Type 0} {n k : ℕ} → ((j : ℕ) → j < n → P j → Q j) → ((j : ℕ) → j < n → Q j → P j) → First P n k → First Q n k
 first_alike {k = k} f g h = record { within = h.within; before = λ j l. f j (omega (arith, h.within)) (h.before j l); found = λ l q. h.found l (g k l q) }
 
+pub finds_alike : {P Q : ℕ → Type 0} {n : ℕ} {r : Option ℕ} → ((j : ℕ) → j < n → P j → Q j) → ((j : ℕ) → j < n → Q j → P j) → Finds P n r → Finds Q n r
+finds_alike f g h = record { first = first_alike f g h.first; inside = h.inside }
+
 -- ---- a search has one result
 not_before : {good : ℕ → Type 0} {n a b : ℕ} → First good n a → First good n b → a < b → ⊥
 not_before {a = a} p q l = p.found (omega (arith, q.within)) (q.before a l)
@@ -152,7 +155,7 @@ row_back NoWiring = refl
 pub refusal_one : (a b : Refusal) → number_of a ≡ number_of b → place_of a ≡ place_of b → a ≡ b
 refusal_one a b n k = sym (row_back a) ∙ ap₂ row_of n k ∙ row_back b
 
-refused_one : {A : Type 0} {i j n k : ℕ} → ◌≡◌ {A = Reply A} (refused i j) (refused n k) → (i ≡ n) × (j ≡ k)
+pub refused_one : {A : Type 0} {i j n k : ℕ} → ◌≡◌ {A = Reply A} (refused i j) (refused n k) → (i ≡ n) × (j ≡ k)
 refused_one e = (cc, cc)
 
 module _ {A B : Type 0} {says : A → B} (one : (a b : A) → says a ≡ says b → a ≡ b) where

@@ -79,8 +79,8 @@ image z f =
     contents z (length f.places) (runs_in z f.runs) ++ f.places ++ f.runs ++ line_four_bytes f.low f.high
 
 -- a lent buffer with xs written at its start, or from at on, and the rest kept
-abbrev pub over : List ℕ → List ℕ → List ℕ
+abbrev pub over : {A : Type 0} → List A → List A → List A
 over xs before = xs ++ drop (length xs) before
 
-abbrev pub over_at : ℕ → List ℕ → List ℕ → List ℕ
+abbrev pub over_at : {A : Type 0} → ℕ → List A → List A → List A
 over_at at xs before = take at before ++ (xs ++ drop (at + length xs) before)

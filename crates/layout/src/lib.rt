@@ -148,11 +148,11 @@ pub fn line_four(line: Range) -> [u8; 4]
 }
 
 // Writes src into the buffer from at on.
-pub fn put(src: &[u8], form: &mut [u8], at: usize)
-    requires { at + length src.now ≤ length form.old }
-    ensures { form.new ≡ over_at at src.now form.old }
+pub fn put<T: Copy>(src: &[T], buffer: &mut [T], at: usize)
+    requires { at + length src.now ≤ length buffer.old }
+    ensures { buffer.new ≡ over_at at src.now buffer.old }
 {
-    for (i, byte) in src.iter().enumerate() {
-        form[at + i] = *byte;
+    for (i, value) in src.iter().enumerate() {
+        buffer[at + i] = *value;
     }
 }

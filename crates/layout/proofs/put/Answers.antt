@@ -1,10 +1,10 @@
-use Rattle.std.proofs.Common.{◌≡◌, ◌+◌, List, ℕ, suc, set, get_or, ap, ◌∙◌, arith}
+use Rattle.std.proofs.Common.{◌≡◌, ◌+◌, suc, set, ap, ap₂, ◌∙◌, arith}
 use Rattle.std.proofs.Math.Seq.{paste, paste-suc}
 use Rattle.layout.proofs.put.Goals as goal
 
 pub loop-i-preserved : goal.loop-i-preserved
-loop-i-preserved c =
+loop-i-preserved g c =
     let next : suc c.loop-i.i ≡ c.loop-i.i + 1 = omega arith in
-    ap (λ (l : List ℕ). set l (c.args.at + c.loop-i.i) (get_or c.args.src.now c.loop-i.i 0)) c.loop-i.invariant
-    ∙ paste-suc c.args.form.now c.args.at c.args.src.now c.loop-i.i 0 (omega arith) (omega arith)
-    ∙ ap (paste c.args.form.now c.args.at c.args.src.now) next
+    ap₂ (λ b v. set b (c.args.at + c.loop-i.i) v) c.loop-i.invariant c.index-src-i.is
+    ∙ paste-suc c.args.buffer.now c.args.at c.args.src.now c.loop-i.i c.index-src-i.result (omega arith) (omega arith)
+    ∙ ap (paste c.args.buffer.now c.args.at c.args.src.now) next

@@ -4,4 +4,4 @@ use Rattle.std.proofs.Math.Seq.{paste}
 use Rattle.layout.proofs.put.Given as goal
 
 abbrev pub invariant-loop-i : goal.invariant-loop-i
-invariant-loop-i l = l.form ≡ paste l.initial.form l.at l.src l.i
+invariant-loop-i g l = l.buffer ≡ paste l.initial.buffer l.at l.src l.i
