@@ -2,20 +2,37 @@
 // bytes it takes. A write that fails is the only error, and leaves written what went before it.
 #![tactic(auto)]
 
-ghost use Rattle.std.specs.Prelude.{◌≡◌, ◌≤◌, ◌+◌, ◌*◌, min, OnOk, slice_index};
+ghost use Rattle.std.specs.Prelude.{◌≡◌, ◌≤◌, ◌+◌, ◌*◌, min, OnOk, slice_index, replicate};
 ghost use Rattle.std.specs.Io.KnownBytes.{Appends};
 ghost use Rattle.listing.specs.Listing.{refused_line, step_line, ok_line, run_line, place_line, run_lines, place_lines, listing};
 ghost use Rattle.layout.specs.Layout.{word as word_at};
 
+use answer::Counts;
 use layout::{CONTENTS, RUN, word};
 use std::io;
 use std::io::Write;
 
-fn smaller(a: usize, b: usize) -> usize
-    ensures within { (result ≤ a) × (result ≤ b) }
-    ensures value { result ≡ min a b }
-{
-    if a < b { a } else { b }
+// The buffers that a form is confirmed into, long enough for any.
+#[derive(Clone, Copy, Debug, PartialEq, Eq)]
+pub struct Buffers {
+    pub form: [u8; 5400],
+    pub wiring: [u8; 1024],
+    pub segments: [u16; 256],
+}
+
+impl Buffers {
+    // Nothing is in them yet.
+    pub fn new() -> Buffers
+        ensures form { result.form ≡ replicate 5400 0 }
+        ensures wiring { result.wiring ≡ replicate 1024 0 }
+        ensures segments { result.segments ≡ replicate 256 0 }
+    {
+        Buffers {
+            form: [0; 5400],
+            wiring: [0; 1024],
+            segments: [0; 256],
+        }
+    }
 }
 
 // A refusal: its number and its place.
@@ -33,32 +50,27 @@ pub fn step<W: Write>(out: &mut W, number: usize) -> io::Result<()>
 }
 
 // A confirmed form in its buffers: the counts and line four, the runs, and the places.
-pub fn accepted<W: Write>(
-    out: &mut W,
-    struck: u16,
-    pinned: u16,
-    form: &[u8; 5400],
-    wiring: &[u8; 1024],
-    segments: &[u16; 256],
-) -> io::Result<()>
+pub fn accepted<W: Write>(out: &mut W, counts: Counts, lent: &Buffers) -> io::Result<()>
     ensures { OnOk result (Appends (W.contents out.old) (W.contents out.new)
-        (listing struck pinned form.now wiring.now segments.now
-        (min (word_at form.now 6) 256) (min (word_at form.now 12) 1024))) }
+        (listing counts.struck counts.pinned lent.now.form lent.now.wiring lent.now.segments
+        (min (word_at lent.now.form 6) 256) (min (word_at lent.now.form 12) 1024))) }
 {
-    let n = smaller(word(form[6], form[7]) as usize, 256);
-    let m = smaller(word(form[12], form[13]) as usize, 1024);
+    let form = &lent.form;
+    let n = usize::from(word(form[6], form[7])).min(256);
+    let m = usize::from(word(form[12], form[13])).min(1024);
     let at = CONTENTS + n + RUN * m;
     let low = word(form[at], form[at + 1]);
     let high = word(form[at + 2], form[at + 3]);
-    counts(out, struck, pinned, low, high)?;
-    runs(out, form, n, m, wiring)?;
-    places(out, form, n, segments)
+    first(out, counts, low, high)?;
+    runs(out, form, n, m, &lent.wiring)?;
+    places(out, form, n, &lent.segments)
 }
 
 // The line of a confirmed form: how many runs are struck and pinned, and line four.
-fn counts<W: Write>(out: &mut W, struck: u16, pinned: u16, low: u16, high: u16) -> io::Result<()>
-    ensures { OnOk result (Appends (W.contents out.old) (W.contents out.new) (ok_line struck pinned low high)) }
+fn first<W: Write>(out: &mut W, counts: Counts, low: u16, high: u16) -> io::Result<()>
+    ensures { OnOk result (Appends (W.contents out.old) (W.contents out.new) (ok_line counts.struck counts.pinned low high)) }
 {
+    let Counts { struck, pinned } = counts;
     writeln!(out, "ok {struck} {pinned} {low} {high}")
 }
 

@@ -7,10 +7,10 @@ use Rattle.listing.proofs.accepted.Goals as goal
 
 pub returns : goal.returns
 returns g c =
-    let n : c.smaller-n.result ≡ min (word c.args.form.now 6) 256 = grind arith in
-    let m : c.smaller-m.result ≡ min (word c.args.form.now 12) 1024 = grind arith in
+    let n : c.min-n.result ≡ min (word c.args.lent.now.form 6) 256 = grind arith in
+    let m : c.min-m.result ≡ min (word c.args.lent.now.form 12) 1024 = grind arith in
     on_ok_weaker c.places.result
-    (λ last. listed _ _ _ _ c.args.struck c.args.pinned c.args.form.now c.args.wiring.now c.args.segments.now
+    (λ last. listed _ _ _ _ c.args.counts.struck c.args.counts.pinned c.args.lent.now.form c.args.lent.now.wiring c.args.lent.now.segments
     n m (rw (← n, ← m) c.word-low.ensures) (rw (← n, ← m) (grind (arith, c.word-high.ensures)))
-    c.in_ok-counts.ensures c.in_ok-runs.ensures last)
+    c.in_ok-first.ensures c.in_ok-runs.ensures last)
     c.places.ensures
