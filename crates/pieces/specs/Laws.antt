@@ -1,13 +1,28 @@
--- Laws of what the piece finder's loops have done so far.
-use Rattle.std.specs.Prelude.{ℕ, min, ◌+◌, ◌≤◌, ◌<◌, Bool, false, List, ◌⊎◌, ◌≡◌, length, get_or, set, replicate}
-use Rattle.std.proofs.Math.Bool.{true}
-use Rattle.std.proofs.Common.{inl, inr, ⊎_elim, sym, subst, ◌∙◌, below_more, lt-ltb, le-ltb, add-one, arith}
+-- Laws of what the piece finder's loops have done so far, and of what its counts and its calls for each index give.
+use denote.Param.Members.{Mut}
+use denote.Ref.{Bor}
+use Rattle.std.specs.Prelude.{ℕ, zero, suc, min, ◌+◌, ◌≤◌, ◌<◌, eqb, Bool, true, false, cond, List, ◌≡◌, length, get_or, set, replicate, map, Option, Some, None}
+use Rattle.std.specs.Array.{IsFromFnResult, IsFromFnResultFrom}
+use Rattle.std.specs.Fn.{Called, CalledAt}
+use Rattle.std.specs.Iterator.{Drains}
+use Rattle.std.specs.declared.iter.Filter.{Filter}
+use Rattle.std.specs.Iterator.Adapters.{filter_steps, filter_source, filter_callee}
+use Rattle.std.specs.declared.ops.Range.{Range}
+use Rattle.std.specs.List.{range_with_len, count_by, sum_by}
+use Rattle.std.specs.Option.{option_or}
+use Rattle.std.proofs.Common.{sym, subst, ◌∙◌, eq-eqb, ne_eqb, lt-ltb, le-ltb, add-one, arith}
 use Rattle.std.proofs.Math.Path.{refl, ap}
 use Rattle.std.proofs.Math.ListN.{length-set, length-replicate, get_or-replicate, get_or-eq_default}
 use Rattle.std.proofs.Math.Seq.{get_or-set_same, get_or-set_other}
 use Rattle.std.proofs.Math.Decide.{ℕ_discrete, dec_lt}
-use Rattle.answer.specs.Laws.{going_none, going_more, found_here, found_none}
-use Rattle.answer.specs.Table.{First, Going}
+use Rattle.std.proofs.iter.Yields.{nat_range_steps}
+use Rattle.std.proofs.lemmas.Iterator.{YieldsList-from_range}
+use Rattle.std.proofs.lemmas.Iterator.Consumers.{YieldsList-at, YieldsList-from_filter, count_from_yields_List}
+use Rattle.std.proofs.lemmas.List.{length-map, get_or-map}
+use Rattle.std.proofs.lemmas.List.FromFn.{sum_by-map-range_with_len_more}
+use Rattle.std.proofs.lemmas.List.Sums.{sum-map, length-filter}
+use Rattle.answer.specs.Laws.{going_more, found_none}
+use Rattle.answer.specs.Table.{Finds}
 use Rattle.layout.specs.Layout.{sizes, end_u, end_v, Shows}
 use Rattle.wirings.specs.Chosen.{taken, chosen, flagged}
 use Rattle.wirings.specs.Labels.{moved, Moved, went, stayed, moves, labels}
@@ -19,107 +34,102 @@ use Rattle.pieces.specs.Holds.{at, Holds, Ended, labels_of, Opens}
 pub zeros : (k x : ℕ) → at (replicate k 0) x ≡ 0
 zeros k x = elim (dec_lt x k) [ yes l ↦ get_or-replicate {A = ℕ} k x 0 0 l | no l ↦ get_or-eq_default (replicate k 0) 0 {n = x} (omega (arith, length-replicate {A = ℕ} k 0)) ]
 
--- ---- an array that a loop fills from the front: the first i are what f says, the others as they were
-pub record Filled (f : ℕ → ℕ) (before array : List ℕ) (i : ℕ) : Type 0 where
-  pub size : length array ≡ 256
-  pub within : i ≤ 256
-  pub done : (x : ℕ) → x < i → at array x ≡ f x
-  pub rest : (x : ℕ) → i ≤ x → at array x ≡ at before x
+-- ---- an array made by a call for each index: what h says, where each call gives that and leaves the closure as it was
+module _ {F : Type 0} (g : Mut F (ℕ × Unit {0}) ℕ) (h : ℕ → ℕ) (f : F) (array : List ℕ) where
+  made_from : (i n : ℕ) → ((x y : ℕ) (q : F) → x < i + n → Called g f (x, tt) y q → (y ≡ h x) × (q ≡ f)) → IsFromFnResultFrom g f array i n
+      → (x : ℕ) → i ≤ x → x < i + n → at array x ≡ h x
+  made_from i zero calls r x a b = absurd (omega arith)
+  made_from i (suc n) calls (q, y, e, c, r) x a b = let k = calls i y q (omega arith) c in elim (ℕ_discrete x i) [
+    | yes p ↦ ap (at array) p ∙ e.1 0 ∙ k.0 ∙ ap h (sym p)
+    | no p ↦ made_from (i + 1) n (λ z w j l. calls z w j (omega arith)) (rw k.1 at r) x (omega arith) (omega arith)
+  ]
 
-pub filled_none : {f : ℕ → ℕ} {array : List ℕ} → length array ≡ 256 → Filled f array array 0
-filled_none e = record { size = e; within = omega arith; done = λ x l. absurd (omega arith); rest = λ x l. refl }
+  pub made : (n : ℕ) → ((x y : ℕ) (q : F) → x < n → Called g f (x, tt) y q → (y ≡ h x) × (q ≡ f)) → IsFromFnResult g f array n → (x : ℕ) → x < n → at array x ≡ h x
+  made n calls r x l = made_from 0 n (λ z w j k. calls z w j (omega arith)) r.each x (omega arith) (omega arith)
 
-module _ {f : ℕ → ℕ} {before array : List ℕ} {i : ℕ} (h : Filled f before array i) where
-  pub filled_set : {v : ℕ} → i < 256 → v ≡ f i → Filled f before (set array i v) (i + 1)
-  filled_set {v} l e =
-      record {
-        size = length-set array i v ∙ h.size;
-        within = omega arith;
-        done = below_more (λ x. at (set array i v) x ≡ f x) i
-            (λ x k. get_or-set_other array i x v 0 (λ p. omega arith) ∙ h.done x k)
-            (get_or-set_same array i v 0 (omega (arith, h.size)) ∙ e);
-        rest = λ x k. get_or-set_other array i x v 0 (λ p. omega arith) ∙ h.rest x (omega arith);
-      }
-
-  pub filled_keep : i < 256 → at array i ≡ f i → Filled f before array (i + 1)
-  filled_keep l e =
-      record { size = h.size; within = omega arith; done = below_more (λ x. at array x ≡ f x) i h.done e; rest = λ x k. h.rest x (omega arith) }
-
-  pub filled_all : 256 ≤ i → Holds f array
-  filled_all l = record { size = h.size; says = λ x k. h.done x (omega arith) }
+-- ---- arrays that hold a function
+-- every element was replaced by what f says of it
+pub holds_map : (f : ℕ → ℕ) (xs : List ℕ) {ys : List ℕ} → length xs ≡ 256 → ys ≡ map f xs → Holds (λ x. f (at xs x)) ys
+holds_map f xs e h = rw h (record { size = length-map xs f ∙ e; says = λ x l. get_or-map f xs x 0 0 (omega arith) })
 
 pub holds_same : {f g : ℕ → ℕ} {array : List ℕ} → Holds f array → ((x : ℕ) → x < 256 → f x ≡ g x) → Holds g array
 holds_same h e = record { size = h.size; says = λ x l. h.says x l ∙ e x l }
 
--- ---- a sum over the first n places, of those where p is q: pieces, supplies of a piece, and pieces with a supply are such sums
-abbrev pub counted : (ℕ → ℕ) → (ℕ → ℕ) → (ℕ → ℕ) → ℕ → ℕ
-counted p q k = tally (λ x. when (p x) (q x) (k x))
+-- ---- counts: of the numbers below n, those that pass a test
+sum_more : (c : ℕ → ℕ) (n : ℕ) → sum_by c (range_with_len 0 (suc n)) ≡ sum_by c (range_with_len 0 n) + c n
+sum_more c n =
+    subst (λ (k : ℕ). sum_by c (range_with_len 0 k) ≡ sum_by c (range_with_len 0 n) + c n) (add-one n)
+    (sym (sum-map c (range_with_len 0 (n + 1))) ∙ sum_by-map-range_with_len_more (λ x. x) c 0 n n (omega arith) ∙ ap (λ (k : ℕ). k + c n) (sum-map c (range_with_len 0 n)))
 
-module _ (p q k : ℕ → ℕ) where
-  pub counted_none : counted p q k 0 ≡ 0
-  unfolding tally
-  counted_none = refl
+passed : (p : ℕ → Bool) (f : ℕ → ℕ) (n : ℕ) → ((x : ℕ) → x < n → cond (p x) 1 0 ≡ f x) → count_by p (range_with_len 0 n) ≡ tally f n
+unfolding tally
+passed p f zero h = refl
+passed p f (suc n) h = omega (arith, sum_more (λ x. cond (p x) 1 0) n, h n (omega arith), passed p f n (λ x l. h x (omega arith)))
 
-  counted_more : (n : ℕ) → counted p q k (n + 1) ≡ when (p n) (q n) (k n) + counted p q k n
-  unfolding tally
-  counted_more n = ap (counted p q k) (add-one n)
+-- a chain that counts them gives f's sum, where each call gives what the test says and leaves the closure as it was
+pub count_passed : {F : Type 0} {g : Mut F (Bor ℕ × Unit {0}) Bool} {s : Filter (Range ℕ) F} {p : F} {result : ℕ} (test : ℕ → Bool) (f : ℕ → ℕ) (n : ℕ)
+    → ((xs : List ℕ) × Drains (filter_steps nat_range_steps g) s xs × (result ≡ length xs)) → filter_source s ≡ record { start = 0; end = n } → filter_callee s ≡ p
+    → ((x : ℕ) (b : Bool) (q : F) → CalledAt g p x b q → (q ≡ p) × (b ≡ test x)) → ((x : ℕ) → x < n → cond (test x) 1 0 ≡ f x) → result ≡ tally f n
+count_passed {g = g} {s} {result = result} test f n ran source callee calls same =
+    count_from_yields_List s result ran (YieldsList-from_filter g test (YieldsList-at source (YieldsList-from_range 0 n n refl (omega arith))) callee calls)
+    ∙ length-filter test (range_with_len 0 n) ∙ passed test f n same
 
-  pub counted_here : (n : ℕ) → p n ≡ q n → counted p q k (n + 1) ≡ counted p q k n + k n
-  counted_here n e = omega (arith, counted_more n, when_is (p n) (q n) (k n) e)
+-- what a test adds where two numbers are equal, and where a bit is set too
+pub when_eq : (p q : ℕ) → cond (eqb p q) 1 0 ≡ when p q 1
+when_eq p q = elim (ℕ_discrete p q) [ yes e ↦ rw (eq-eqb p q e) (sym (when_is p q 1 e)) | no n ↦ rw (ne_eqb p q n) (sym (when_not p q 1 n)) ]
 
-  pub counted_past : (n : ℕ) → (p n ≡ q n → ⊥) → counted p q k (n + 1) ≡ counted p q k n
-  counted_past n e = omega (arith, counted_more n, when_not (p n) (q n) (k n) e)
+pub when_set : (p q : ℕ) {k z : ℕ} → k ≡ z → z ≤ 1 → cond (cond (eqb p q) (eqb k 1) false) 1 0 ≡ when p q z
+when_set p q {k} {z} e l = elim (ℕ_discrete p q) [
+  | yes s ↦ rw (eq-eqb p q s) (elim (ℕ_discrete k 1) [ yes i ↦ rw (eq-eqb k 1 i) (omega (arith, when_is p q z s)) | no i ↦ rw (ne_eqb k 1 i) (omega (arith, when_is p q z s)) ])
+  | no n ↦ rw (ne_eqb p q n) (sym (when_not p q z n))
+]
 
 -- ---- what `supplied` has seen: the first n places
 abbrev pub Seen : (ℕ → ℕ) → (ℕ → ℕ) → List ℕ → ℕ → Type 0
 Seen supply lab fed n = Holds (λ x. min 1 (stock n supply lab x)) fed
 
 module _ (supply lab : ℕ → ℕ) where
+  stock_more : (n x : ℕ) → stock (n + 1) supply lab x ≡ when (lab n) x (supply n) + stock n supply lab x
+  unfolding stock tally
+  stock_more n x = ap (λ (k : ℕ). stock k supply lab x) (add-one n)
+
   pub seen_none : Seen supply lab (replicate 256 0) 0
-  unfolding stock
-  seen_none =
-      record { size = length-replicate {A = ℕ} 256 0; says = λ x l. omega (arith, get_or-replicate {A = ℕ} 256 x 0 0 l, counted_none lab (λ _. x) supply) }
+  unfolding stock tally
+  seen_none = record { size = length-replicate {A = ℕ} 256 0; says = λ x l. omega (arith, zeros 256 x) }
 
   module _ {fed : List ℕ} {n : ℕ} (h : Seen supply lab fed n) where
     pub seen_pass : supply n ≡ 0 → Seen supply lab fed (n + 1)
-    unfolding stock
     seen_pass e = holds_same h (λ x l. elim (ℕ_discrete (lab n) x) [
-      | yes p ↦ omega (arith, counted_here lab (λ _. x) supply n p)
-      | no p ↦ omega (arith, counted_past lab (λ _. x) supply n p)
+      | yes p ↦ omega (arith, stock_more n x, when_is (lab n) x (supply n) p)
+      | no p ↦ omega (arith, stock_more n x, when_not (lab n) x (supply n) p)
     ])
 
     pub seen_supply : supply n ≡ 1 → lab n < 256 → Seen supply lab (set fed (lab n) 1) (n + 1)
-    unfolding stock
     seen_supply e l =
         record {
           size = length-set fed (lab n) 1 ∙ h.size;
           says = λ x k. elim (ℕ_discrete (lab n) x) [
-            | yes p ↦ omega (arith, ap (at (set fed (lab n) 1)) p, get_or-set_same fed (lab n) 1 0 (omega (arith, h.size)), counted_here lab (λ _. x) supply n p)
-            | no p ↦ omega (arith, get_or-set_other fed (lab n) x 1 0 (λ q. p (sym q)), h.says x k, counted_past lab (λ _. x) supply n p)
+            | yes p ↦ omega (arith, ap (at (set fed (lab n) 1)) p, get_or-set_same fed (lab n) 1 0 (omega (arith, h.size)), stock_more n x, when_is (lab n) x (supply n) p)
+            | no p ↦ omega (arith, get_or-set_other fed (lab n) x 1 0 (λ q. p (sym q)), h.says x k, stock_more n x, when_not (lab n) x (supply n) p)
           ];
         }
 
--- ---- a search that goes on past the first fault: what it has noted after r, of which k is m while all were good
-pub record Noted (good : ℕ → Type 0) (m r k : ℕ) : Type 0 where
-  pub within : r ≤ m
-  pub so_far : (Going good m r × (k ≡ m)) ⊎ (First good m k × (k < m))
+-- ---- a search that goes on past the first fault: what it has found below r, and below r + 1
+pub finds_none : {good : ℕ → Type 0} → Finds good 0 None
+finds_none = record { first = record { within = omega arith; before = λ j l. absurd (omega arith); found = λ l. absurd (omega arith) }; inside = tt }
 
-module _ {good : ℕ → Type 0} {m : ℕ} where
-  pub noted_none : Noted good m 0 m
-  noted_none = record { within = omega arith; so_far = inl (going_none, refl) }
+module _ {good : ℕ → Type 0} {r : ℕ} where
+  -- what it has found stays, where there is any or the next is good
+  finds_still : {j : ℕ} → Finds good r (Some j) → Finds good (r + 1) (Some j)
+  finds_still f = record { first = record { within = omega (arith, f.inside); before = f.first.before; found = λ l. f.first.found f.inside }; inside = omega (arith, f.inside) }
 
-  module _ {r k : ℕ} (n : Noted good m r k) where
-    pub noted_good : r < m → good r → Noted good m (r + 1) k
-    noted_good l h = record { within = omega arith; so_far = ⊎_elim (λ g. inl (going_more g.0 l h, g.1)) inr n.so_far }
+  pub finds_good : (k : Option ℕ) → good r → Finds good r k → Finds good (r + 1) k
+  finds_good None h f = record { first = found_none (going_more (record { within = omega arith; before = f.first.before }) (omega arith) h) (omega arith); inside = tt }
+  finds_good (Some j) h f = finds_still f
 
-    pub noted_first : k ≡ m → r < m → (good r → ⊥) → Noted good m (r + 1) r
-    noted_first e l h = record { within = omega arith; so_far = ⊎_elim (λ g. inr (found_here g.0 h, l)) (λ f. absurd (omega arith)) n.so_far }
-
-    pub noted_later : (k ≡ m → ⊥) → r < m → Noted good m (r + 1) k
-    noted_later e l = record { within = omega arith; so_far = ⊎_elim (λ g. absurd (e g.1)) inr n.so_far }
-
-    pub noted_all : m ≤ r → First good m k
-    noted_all l = let e : r ≡ m = omega (arith, n.within) in ⊎_elim (λ g. subst (First good m) (e ∙ sym g.1) (found_none g.0 l)) (λ f. f.0) n.so_far
+  pub finds_bad : (k : Option ℕ) → (good r → ⊥) → Finds good r k → Finds good (r + 1) (option_or k (Some r))
+  finds_bad None h f = record { first = record { within = omega arith; before = f.first.before; found = λ l. h }; inside = omega arith }
+  finds_bad (Some j) h f = finds_still f
 
 -- ---- the labels after one more run
 module _ (runs flags : List ℕ) where
@@ -147,46 +157,39 @@ moved_one a b y e = go (moves a b y)
     go (stayed p q) = q
 
 -- ---- what `find` has done after r runs
-pub record Searched (runs flags labels : List ℕ) (closing r : ℕ) : Type 0 where
+pub record Searched (runs flags labels : List ℕ) (closing : Option ℕ) (r : ℕ) : Type 0 where
   pub holds : Holds (labels_of runs flags r) labels
-  pub noted : Noted (Opens runs flags) (length flags) r closing
+  pub first : Finds (Opens runs flags) r closing
 
-pub searched_none : {runs flags labels : List ℕ} → Holds (λ x. x) labels → Searched runs flags labels (length flags) 0
-searched_none {runs} {flags} h = record { holds = holds_same h (λ x l. labels_none runs flags x); noted = noted_none }
+pub searched_none : {runs flags labels : List ℕ} → Holds (λ x. x) labels → Searched runs flags labels None 0
+searched_none {runs} {flags} h = record { holds = holds_same h (λ x l. labels_none runs flags x); first = finds_none }
 
-module _ {runs flags labels : List ℕ} {closing r : ℕ} (s : Searched runs flags labels closing r) (l : r < length flags) where
+module _ {runs flags labels : List ℕ} {closing : Option ℕ} {r : ℕ} (s : Searched runs flags labels closing r) where
   pub searched_pass : get_or flags r 0 ≤ 0 → Searched runs flags labels closing (r + 1)
   searched_pass none =
-      record { holds = holds_same s.holds (λ x k. sym (labels_pass runs flags r none x)); noted = noted_good s.noted l (λ f. absurd (omega arith)) }
+      record { holds = holds_same s.holds (λ x k. sym (labels_pass runs flags r none x)); first = finds_good closing (λ f. absurd (omega arith)) s.first }
 
   -- run r is chosen, and its ends are u and v
-  module _ {u v state : ℕ} (ended : Ended runs (length flags)) (flag : 0 < get_or flags r 0) (shows : Shows sizes runs r u v state) where
+  module _ {m u v state : ℕ} (ended : Ended runs m) (l : r < m) (flag : 0 < get_or flags r 0) (shows : Shows sizes runs r u v state) where
     at_u : at labels u ≡ labels_of runs flags r (end_u sizes runs r)
     at_u = s.holds.says u (omega (arith, ended.one r l, shows.one)) ∙ ap (labels_of runs flags r) shows.one
 
     at_v : at labels v ≡ labels_of runs flags r (end_v sizes runs r)
     at_v = s.holds.says v (omega (arith, ended.other r l, shows.other)) ∙ ap (labels_of runs flags r) shows.other
 
-    module _ (one : at labels u ≡ at labels v) where
-      same : labels_of runs flags r (end_u sizes runs r) ≡ labels_of runs flags r (end_v sizes runs r)
-      same = sym at_u ∙ one ∙ at_v
-
-      kept : Holds (labels_of runs flags (r + 1)) labels
-      kept = holds_same s.holds (λ x k. sym (labels_join runs flags r flag x ∙ moved_one _ _ _ same))
-
-      pub searched_first : closing ≡ length flags → Searched runs flags labels r (r + 1)
-      searched_first e = record { holds = kept; noted = noted_first s.noted e l (λ opens. opens flag same) }
-
-      pub searched_later : (closing ≡ length flags → ⊥) → Searched runs flags labels closing (r + 1)
-      searched_later e = record { holds = kept; noted = noted_later s.noted e l }
+    pub searched_closed : at labels u ≡ at labels v → Searched runs flags labels (option_or closing (Some r)) (r + 1)
+    searched_closed one =
+        record {
+          holds = holds_same s.holds (λ x k. sym (labels_join runs flags r flag x ∙ moved_one _ _ _ same));
+          first = finds_bad closing (λ opens. opens flag same) s.first;
+        }
+      where
+        same : labels_of runs flags r (end_u sizes runs r) ≡ labels_of runs flags r (end_v sizes runs r)
+        same = sym at_u ∙ one ∙ at_v
 
     pub searched_join : {new : List ℕ} → (at labels u ≡ at labels v → ⊥) → Holds (λ x. moved (at labels u) (at labels v) (at labels x)) new → Searched runs flags new closing (r + 1)
     searched_join two h =
         record {
           holds = holds_same h (λ x k. cc (at_u, at_v, s.holds.says x k, labels_join runs flags r flag x));
-          noted = noted_good s.noted l (λ f e. two (at_u ∙ e ∙ sym at_v));
+          first = finds_good closing (λ f e. two (at_u ∙ e ∙ sym at_v)) s.first;
         }
-
-pub searched_all : {runs flags labels : List ℕ} {closing r : ℕ} → Searched runs flags labels closing r → length flags ≤ r
-    → Holds (labels_of runs flags (length flags)) labels × First (Opens runs flags) (length flags) closing
-searched_all {flags = flags} {r = r} s l = let e : r ≡ length flags = omega (arith, s.noted.within) in (rw e at s.holds, noted_all s.noted l)

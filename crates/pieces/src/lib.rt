@@ -2,29 +2,26 @@
 #![tactic(auto)]
 
 ghost use Rattle.std.specs.Prelude.{◌≡◌, ℕ, ◌≤◌, ◌<◌, min, length, get_or};
-ghost use Rattle.answer.specs.Table.{First};
+ghost use Rattle.answer.specs.Table.{Finds};
 ghost use Rattle.wirings.specs.Labels.{moved};
 ghost use Rattle.wirings.specs.Pieces.{pieces, stock, fed_pieces};
 ghost use Rattle.pieces.specs.Holds.{at, Holds, Ended, labels_of, Opens};
 
-// The labels that chosen runs give, and the first of these runs whose ends earlier ones join already (their number where none is).
-#[derive(Clone, Copy)]
+use layout::Run;
+use std::array;
+
+// The labels that chosen runs give, and the first of these runs whose ends earlier ones join already.
+#[derive(Clone, Copy, Debug, PartialEq, Eq)]
 pub struct Found {
     pub labels: [u16; 256],
-    pub closing: usize,
+    pub closing: Option<usize>,
 }
 
 // Each place a piece of its own.
 pub fn alone() -> [u16; 256]
     ensures { Holds (λ x. x) result }
 {
-    let mut labels = [0u16; 256];
-    let mut x = 0;
-    while x < 256 {
-        labels[x] = x as u16;
-        x += 1;
-    }
-    labels
+    array::from_fn(|x| x as u16)
 }
 
 // The pieces of two places joined: the larger label becomes the smaller.
@@ -32,17 +29,13 @@ pub fn join(labels: [u16; 256], u: usize, v: usize) -> [u16; 256]
     requires { (u < 256) × (v < 256) }
     ensures { Holds (λ x. moved (at labels u) (at labels v) (at labels x)) result }
 {
-    let a = labels[u];
-    let b = labels[v];
-    let low = if a < b { a } else { b };
-    let high = if a < b { b } else { a };
+    let low = labels[u].min(labels[v]);
+    let high = labels[u].max(labels[v]);
     let mut joined = labels;
-    let mut x = 0;
-    while x < 256 {
-        if joined[x] == high {
-            joined[x] = low;
+    for label in &mut joined {
+        if *label == high {
+            *label = low;
         }
-        x += 1;
     }
     joined
 }
@@ -51,26 +44,19 @@ pub fn join(labels: [u16; 256], u: usize, v: usize) -> [u16; 256]
 pub fn find(runs: &[u8], flags: &[u8]) -> Found
     requires { Ended runs.now (length flags.now) }
     ensures holds { Holds (labels_of runs.now flags.now (length flags.now)) result.labels }
-    ensures first { First (Opens runs.now flags.now) (length flags.now) result.closing }
+    ensures first { Finds (Opens runs.now flags.now) (length flags.now) result.closing }
 {
-    let m = flags.len();
     let mut labels = alone();
-    let mut closing = m;
-    let mut r = 0;
-    while r < m {
-        if 0 < flags[r] {
-            let run = layout::run_at(runs, r);
-            let u = run.u;
-            let v = run.v;
+    let mut closing = None;
+    for (r, flag) in flags.iter().enumerate() {
+        if 0 < *flag {
+            let Run { u, v, .. } = layout::run_at(runs, r);
             if labels[u] == labels[v] {
-                if closing == m {
-                    closing = r;
-                }
+                closing = closing.or(Some(r));
             } else {
                 labels = join(labels, u, v);
             }
         }
-        r += 1;
     }
     Found { labels, closing }
 }
@@ -81,14 +67,11 @@ pub fn supplied(labels: [u16; 256], places: &[u8]) -> [u8; 256]
     requires bits { (x : ℕ) → get_or places.now x 0 ≤ 1 }
     ensures { Holds (λ x. min 1 (stock (length places.now) (at places.now) (at labels) x)) result }
 {
-    let mut fed = [0u8; 256];
-    let mut y = 0;
-    while y < places.len() {
-        if places[y] == 1 {
-            let x = labels[y] as usize;
-            fed[x] = 1;
+    let mut fed = [0; 256];
+    for (y, supply) in places.iter().enumerate() {
+        if *supply == 1 {
+            fed[usize::from(labels[y])] = 1;
         }
-        y += 1;
     }
     fed
 }
@@ -98,15 +81,7 @@ pub fn count(labels: [u16; 256], n: usize) -> usize
     requires { n ≤ 256 }
     ensures { result ≡ pieces n (at labels) }
 {
-    let mut k = 0;
-    let mut x = 0;
-    while x < n {
-        if labels[x] as usize == x {
-            k += 1;
-        }
-        x += 1;
-    }
-    k
+    (0..n).filter(|x| usize::from(labels[*x]) == *x).count()
 }
 
 // How many of them hold a supply, by what `supplied` says.
@@ -115,13 +90,7 @@ pub fn count_supplied(labels: [u16; 256], fed: [u8; 256], places: &[u8]) -> usiz
     requires supplied { Holds (λ x. min 1 (stock (length places.now) (at places.now) (at labels) x)) fed }
     ensures { result ≡ fed_pieces (length places.now) (at places.now) (at labels) }
 {
-    let mut k: usize = 0;
-    let mut x = 0;
-    while x < places.len() {
-        if labels[x] as usize == x {
-            k += fed[x] as usize;
-        }
-        x += 1;
-    }
-    k
+    (0..places.len())
+        .filter(|x| usize::from(labels[*x]) == *x && fed[*x] == 1)
+        .count()
 }
