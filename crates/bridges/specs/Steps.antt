@@ -1,17 +1,19 @@
 -- One turn of each loop of the routine, and what the parts give together.
-use Rattle.std.specs.Prelude.{ℕ, ◌+◌, ◌-◌, ◌≤◌, ◌<◌, List, ◌↔◌, ◌≡◌, length, set, replicate}
+use Rattle.std.specs.Prelude.{ℕ, ◌+◌, ◌-◌, ◌≤◌, ◌<◌, Bool, true, false, List, ◌↔◌, ◌≡◌, length, get_or, set, replicate}
 use Rattle.std.proofs.Common.{⊎_elim, sym, ap, subst, ◌∙◌, length-set, get_or-set_same, get_or-set_other, arith}
-use Rattle.std.proofs.lemmas.List.{length-replicate}
+use Rattle.std.proofs.lemmas.List.{length-replicate, get_or-replicate}
+use Rattle.std.proofs.Math.ListN.{get_or-eq_default}
 use Rattle.std.proofs.Math.Decide.{ℕ_discrete, dec_lt}
-use Rattle.bridges.specs.Climbed.{Passed, Climbed}
+use Rattle.bridges.specs.Climbed.{Passed, Marked, Climbed}
 use Rattle.forest.specs.Grown.{Grown, Under, Outside, outside_run, way_or_outside, outside_bypassed, via_one, bridge_fed, bridge_bare, bridge_bypassed}
-use Rattle.bridges.specs.Kinds.{Kinds}
+use Rattle.bridges.specs.declared.Kind.{Kind}
+use Rattle.bridges.specs.declared.Kind.TheVariants.{Bypassed}
+use Rattle.bridges.specs.Kinds.{Kinds, kind_number}
 use Rattle.forest.specs.Parts.{order_at}
-use Rattle.bridges.specs.Routine.{Crossed, Copied, Of, Ruled, round, supplied, bare, Told}
+use Rattle.bridges.specs.Routine.{Crossed, Supplies, Of, Ruled, round, supplied, bare, Told}
 use Rattle.bridges.specs.Supplied.{Feeding, feeding_start, feeding_up, feeding_pass}
 use Rattle.layout.specs.Layout.{sizes, end_u, end_v, Shows}
 use Rattle.pieces.specs.Holds.{at, Fits}
-use Rattle.pieces.specs.Laws.{zeros}
 use Rattle.wirings.specs.Alike.{Alike}
 use Rattle.wirings.proofs.Alike.{alike_sym, joined_as, fed_as}
 use Rattle.wirings.specs.Limits.{Unstruck}
@@ -19,20 +21,27 @@ use Rattle.wirings.specs.Marks.{Others, Bridge, bypassed}
 use Rattle.wirings.specs.Marks.{supplied as both_fed, bare as one_bare}
 use Rattle.wirings.specs.Wiring.{Order, along, Joined, here, on, Fed}
 
--- ---- the kinds that the places tell
-module _ {via passed fed : List ℕ} {m : ℕ} where
-  pub told_none : Told via passed fed m 0 (replicate 1024 0)
-  told_none = record { size = length-replicate {A = ℕ} 1024 0; way = λ x l. absurd (omega arith); rest = λ r _. zeros 1024 r }
+-- a new array holds one value
+blank : {A : Type 0} (n : ℕ) (x : A) (i : ℕ) → get_or (replicate n x) i x ≡ x
+blank n x i = elim (dec_lt i n) [ yes l ↦ get_or-replicate n i x x l | no l ↦ get_or-eq_default (replicate n x) x {n = i} (omega (arith, length-replicate n x)) ]
 
-  module _ {i : ℕ} {kinds : List ℕ} (t : Told via passed fed m i kinds) where
-    pub told_way : {k : ℕ} → m ≤ 1024 → at via i < m → Ruled (at passed i) (at fed i) k → Told via passed fed m (i + 1) (set kinds (at via i) k)
+pub unmarked : {b : Bool} → b ≡ false → b ≡ true → ⊥
+unmarked p q = cc
+
+-- ---- the kinds that the places tell
+module _ {via : List ℕ} {passed fed : List Bool} {m : ℕ} where
+  pub told_none : Told via passed fed m 0 (replicate 1024 Bypassed)
+  told_none = record { size = length-replicate 1024 Bypassed; way = λ x l. absurd (omega arith); rest = λ r _. blank 1024 Bypassed r }
+
+  module _ {i : ℕ} {kinds : List Kind} (t : Told via passed fed m i kinds) where
+    pub told_way : {k : Kind} → m ≤ 1024 → at via i < m → Ruled (get_or passed i false) (get_or fed i false) k → Told via passed fed m (i + 1) (set kinds (at via i) k)
     told_way {k} few v h = record {
       size = length-set kinds (at via i) k ∙ t.size;
       way = λ x l w one. elim (ℕ_discrete x i) [
-        | yes e ↦ subst (λ (j : ℕ). Ruled (at passed j) (at fed j) (at (set kinds (at via i) k) (at via j))) (sym e) (subst (Ruled (at passed i) (at fed i)) (sym (get_or-set_same kinds (at via i) k 0 (omega (arith, t.size)))) h)
-        | no n ↦ subst (Ruled (at passed x) (at fed x)) (sym (get_or-set_other kinds (at via i) (at via x) k 0 (λ e. n (sym (one i (omega arith) (sym e)))))) (t.way x (omega arith) w (λ y b. one y (omega arith)))
+        | yes e ↦ subst (λ (j : ℕ). Ruled (get_or passed j false) (get_or fed j false) (get_or (set kinds (at via i) k) (at via j) Bypassed)) (sym e) (subst (Ruled (get_or passed i false) (get_or fed i false)) (sym (get_or-set_same kinds (at via i) k Bypassed (omega (arith, t.size)))) h)
+        | no n ↦ subst (Ruled (get_or passed x false) (get_or fed x false)) (sym (get_or-set_other kinds (at via i) (at via x) k Bypassed (λ e. n (sym (one i (omega arith) (sym e)))))) (t.way x (omega arith) w (λ y b. one y (omega arith)))
       ];
-      rest = λ r free. get_or-set_other kinds (at via i) r k 0 (λ e. free i (omega arith) (sym e)) ∙ t.rest r (λ x b. free x (omega arith));
+      rest = λ r free. get_or-set_other kinds (at via i) r k Bypassed (λ e. free i (omega arith) (sym e)) ∙ t.rest r (λ x b. free x (omega arith));
     }
 
     pub told_pass : m ≤ at via i → Told via passed fed m (i + 1) kinds
@@ -42,26 +51,16 @@ module _ {via passed fed : List ℕ} {m : ℕ} where
       rest = λ r free. t.rest r (λ x b. free x (omega arith));
     }
 
--- ---- the bytes of the places
-pub copied_none : {xs : List ℕ} → Copied xs 0 (replicate 256 0)
-copied_none = record { size = length-replicate {A = ℕ} 256 0; says = λ y l. absurd (omega arith) }
-
-pub copied_more : {xs array : List ℕ} {k v : ℕ} → Copied xs k array → k < 256 → v ≡ at xs k → Copied xs (k + 1) (set array k v)
-copied_more {xs} {array} {k} {v} h l e = record {
-  size = length-set array k v ∙ h.size;
-  says = λ y b. elim (ℕ_discrete y k) [ yes q ↦ ap (at (set array k v)) q ∙ get_or-set_same array k v 0 (omega (arith, h.size)) ∙ e ∙ ap (at xs) (sym q) | no n ↦ get_or-set_other array k y v 0 n ∙ h.says y (omega arith) ];
-}
-
 -- ---- the places passed, once the runs below r have been climbed from
-pub record Marking (o : Order) (rank up via passed : List ℕ) (r : ℕ) : Type 0 where
+pub record Marking (o : Order) (rank up via : List ℕ) (passed : List Bool) (r : ℕ) : Type 0 where
   pub size : length passed ≡ 256
-  pub new : (x : ℕ) → 0 < at passed x → Passed o (at up) (at via) x
-  pub same : (f : ℕ) → f < r → Outside o (at via) f → (x : ℕ) → at passed x ≡ 0 → Under o (at rank) (at up) (at via) 0 x (o.u f) ↔ Under o (at rank) (at up) (at via) 0 x (o.v f)
+  pub new : (x : ℕ) → Marked passed x → Passed o (at up) (at via) x
+  pub same : (f : ℕ) → f < r → Outside o (at via) f → (x : ℕ) → (Marked passed x → ⊥) → Under o (at rank) (at up) (at via) 0 x (o.u f) ↔ Under o (at rank) (at up) (at via) 0 x (o.v f)
 
-pub marking_none : {o : Order} {rank up via : List ℕ} → Marking o rank up via (replicate 256 0) 0
-marking_none = record { size = length-replicate {A = ℕ} 256 0; new = λ x l. absurd (omega (arith, zeros 256 x)); same = λ f l. absurd (omega arith) }
+pub marking_none : {o : Order} {rank up via : List ℕ} → Marking o rank up via (replicate 256 false) 0
+marking_none = record { size = length-replicate 256 false; new = λ x l. absurd (unmarked (blank 256 false x) l); same = λ f l. absurd (omega arith) }
 
-module _ {o : Order} {rank up via passed : List ℕ} {r : ℕ} (k : Marking o rank up via passed r) where
+module _ {o : Order} {rank up via : List ℕ} {passed : List Bool} {r : ℕ} (k : Marking o rank up via passed r) where
   -- a struck run, or one of the forest
   pub marking_skip : (Outside o (at via) r → ⊥) → Marking o rank up via passed (r + 1)
   marking_skip n = record {
@@ -70,7 +69,7 @@ module _ {o : Order} {rank up via passed : List ℕ} {r : ℕ} (k : Marking o ra
     same = λ f l out x e. elim (ℕ_discrete f r) [ yes q ↦ absurd (n (subst (Outside o (at via)) q out)) | no d ↦ k.same f (omega arith) out x e ];
   }
 
-  pub marking_climb : {after : List ℕ} {u v : ℕ} → u ≡ o.u r → v ≡ o.v r → Climbed o (at rank) (at up) (at via) u v passed after → Marking o rank up via after (r + 1)
+  pub marking_climb : {after : List Bool} {u v : ℕ} → u ≡ o.u r → v ≡ o.v r → Climbed o (at rank) (at up) (at via) u v passed after → Marking o rank up via after (r + 1)
   marking_climb {after} {u} p q c = record {
     size = c.size ∙ k.size;
     new = λ x l. ⊎_elim (λ b. k.new x b) (λ b. b) (c.new x l);
@@ -78,27 +77,18 @@ module _ {o : Order} {rank up via passed : List ℕ} {r : ℕ} (k : Marking o ra
       | yes d ↦ subst (λ (j : ℕ). Under o (at rank) (at up) (at via) 0 x (o.u j) ↔ Under o (at rank) (at up) (at via) 0 x (o.v j)) (sym d)
           (subst (λ (j : ℕ). Under o (at rank) (at up) (at via) 0 x j ↔ Under o (at rank) (at up) (at via) 0 x (o.v r)) p
           (subst (λ (j : ℕ). Under o (at rank) (at up) (at via) 0 x u ↔ Under o (at rank) (at up) (at via) 0 x j) q (c.same x e)))
-      | no d ↦ k.same f (omega arith) out x (unmarked x e)
+      | no d ↦ k.same f (omega arith) out x (λ b. e (c.kept x b))
     ];
   }
-    where
-      unmarked : (x : ℕ) → at after x ≡ 0 → at passed x ≡ 0
-      unmarked x e = elim (dec_lt 0 (at passed x)) [ yes b ↦ absurd (omega (arith, c.kept x b)) | no b ↦ omega arith ]
 
--- a struck run is not outside the forest, nor is the way to a place
-pub struck_run : (places runs states : List ℕ) (m : ℕ) (via : List ℕ) (r : ℕ) → at states r ≡ 0 → Outside (order_at places runs states m) (at via) r → ⊥
-struck_run places runs states m via r e (u, _) = omega (arith, u.1)
+-- both ends of a run are places
+pub run_ends : {places runs : List ℕ} {m r u v s : ℕ} → Fits places runs m → r < m → Shows sizes runs r u v s → (u < length places) × (v < length places)
+run_ends {r = r} fits l q = (omega (arith, q.one, fits.one r l), omega (arith, q.other, fits.other r l))
 
-pub way_to : (places runs states : List ℕ) (m : ℕ) (via : List ℕ) (r x : ℕ) → x < length places → at via x ≡ r → Outside (order_at places runs states m) (at via) r → ⊥
-way_to places runs states m via r x l e (_, n) = n x l e
-
-pub run_ends : (places runs : List ℕ) (m : ℕ) → Fits places runs m → {r u v s : ℕ} → r < m → Shows sizes runs r u v s → (u < length places) × (v < length places)
-run_ends places runs m fits {r} l q = (omega (arith, q.one, fits.one r l), omega (arith, q.other, fits.other r l))
-
--- but the others are
-pub crossed : (places runs states : List ℕ) (m : ℕ) → Fits places runs m → (rank up via : List ℕ) → Grown (order_at places runs states m) (at rank) (at up) (at via) → {r u v s : ℕ} → r < m → Shows sizes runs r u v s
+-- an unstruck run that is the way to none of its ends is outside the forest
+pub crossed : {places runs : List ℕ} {m : ℕ} → Fits places runs m → (states rank up via : List ℕ) → Grown (order_at places runs states m) (at rank) (at up) (at via) → {r u v s : ℕ} → r < m → Shows sizes runs r u v s
     → 0 < at states r → (at via u ≡ r → ⊥) → (at via v ≡ r → ⊥) → Crossed rank up u v (order_at places runs states m) (at via)
-crossed places runs states m fits rank up via g {r} l q b n k = let t = run_ends places runs m fits l q in record {
+crossed fits states rank up via g {r} l q b n k = let t = run_ends fits l q in record {
   grown = g;
   few = fits.small;
   one = t.0;
@@ -108,38 +98,36 @@ crossed places runs states m fits rank up via g {r} l q b n k = let t = run_ends
 
 -- ---- the supplies below, from the last place back
 module _ {places order up via : List ℕ} {m : ℕ} {o : Order} {rank : List ℕ} (f : Of places order up via m o rank) where
-  pub feeds_start : {fed : List ℕ} → Copied places (length places) fed → Feeding o (at rank) (at up) (at via) fed (length places)
-  feeds_start h = feeding_start f.grown h.size (λ y l. f.ranked.most y (omega (arith, f.as_many))) (λ y l. h.says y (omega (arith, f.as_many)) ∙ sym (f.supply y))
+  pub feeds_start : {fed : List Bool} → Supplies places (length places) fed → Feeding o (at rank) (at up) (at via) fed (length places)
+  feeds_start h = feeding_start f.grown h.size (λ y l. f.ranked.most y (omega (arith, f.as_many))) (λ y l. let t = h.says y (omega (arith, f.as_many)) in (λ p. f.supply y ∙ t.0 p, λ p. t.1 (sym (f.supply y) ∙ p)))
 
-  module _ {fed : List ℕ} {k : ℕ} (h : Feeding o (at rank) (at up) (at via) fed k) (p : 0 < k) (l : k ≤ length places) where
-    last : (at order (k - 1) < o.n) × (at rank (at order (k - 1)) ≡ (k - 1) + 1)
-    last = let q = f.ranked.ordered (k - 1) (omega arith) in (omega (arith, q.0, f.as_many), q.1)
+  module _ {fed : List Bool} {k x : ℕ} (h : Feeding o (at rank) (at up) (at via) fed k) (p : 0 < k) (l : k ≤ length places) (e : x ≡ at order (k - 1)) where
+    last : (x < o.n) × (at rank x ≡ (k - 1) + 1)
+    last = let q = f.ranked.ordered (k - 1) (omega arith) in (omega (arith, e, q.0, f.as_many), ap (at rank) e ∙ q.1)
 
     at_last : Feeding o (at rank) (at up) (at via) fed ((k - 1) + 1)
     at_last = subst (Feeding o (at rank) (at up) (at via) fed) (omega arith) h
 
-    pub feeds_up : length places ≤ 256 → at via (at order (k - 1)) < m → at fed (at order (k - 1)) ≡ 1 → Feeding o (at rank) (at up) (at via) (set fed (at up (at order (k - 1))) 1) (k - 1)
+    pub feeds_up : length places ≤ 256 → at via x < m → Marked fed x → Feeding o (at rank) (at up) (at via) (set fed (at up x) true) (k - 1)
     feeds_up few v e = feeding_up f.grown at_last last.0 last.1 (omega (arith, f.as_many)) (omega (arith, f.as_runs)) e
 
-    pub feeds_pass : (at via (at order (k - 1)) < m → at fed (at order (k - 1)) ≡ 1 → ⊥) → Feeding o (at rank) (at up) (at via) fed (k - 1)
+    pub feeds_pass : (at via x < m → Marked fed x → ⊥) → Feeding o (at rank) (at up) (at via) fed (k - 1)
     feeds_pass n = feeding_pass f.grown at_last last.0 last.1 (λ v. n (omega (arith, f.as_runs)))
 
 -- ---- together: the kind of each unstruck run, in the order that the arguments make
-module _ (places runs states : List ℕ) (m : ℕ) {rank up via passed fed kinds : List ℕ} (g : Grown (order_at places runs states m) (at rank) (at up) (at via))
+module _ (places runs states : List ℕ) (m : ℕ) {rank up via : List ℕ} {passed fed : List Bool} {kinds : List Kind} (g : Grown (order_at places runs states m) (at rank) (at up) (at via))
     (k : Marking (order_at places runs states m) rank up via passed m) (f : Feeding (order_at places runs states m) (at rank) (at up) (at via) fed 0) (t : Told via passed fed m (length places) kinds) where
-  told : (r : ℕ) → Unstruck (order_at places runs states m) r → Bridge (order_at places runs states m) r (at kinds r)
+  told : (r : ℕ) → Unstruck (order_at places runs states m) r → Bridge (order_at places runs states m) r (kind_number (get_or kinds r Bypassed))
   told r u = ⊎_elim
       (λ (w, l, e). let v : at via w < m = omega (arith, u.0) in
-      subst (λ (j : ℕ). Bridge (order_at places runs states m) j (at kinds j)) e (rule w l v (t.way w l v (λ y b q. via_one g y w b l (omega arith) q))))
-      (λ out. bypassed (outside_bypassed g r out) (t.rest r out.1))
+      subst (λ (j : ℕ). Bridge (order_at places runs states m) j (kind_number (get_or kinds j Bypassed))) e (rule w l v (t.way w l v (λ y b q. via_one g y w b l (omega arith) q))))
+      (λ out. bypassed (outside_bypassed g r out) (ap kind_number (t.rest r out.1)))
       (way_or_outside g r u)
     where
-      rule : (w : ℕ) → w < length places → at via w < m → Ruled (at passed w) (at fed w) (at kinds (at via w)) → Bridge (order_at places runs states m) (at via w) (at kinds (at via w))
-      rule w l v (round p e) = subst (Bridge (order_at places runs states m) (at via w)) (sym e) (bridge_bypassed g w l v (k.new w p).round)
-      rule w l v (supplied p q e) = let (y, b, s, d) = f.some w l q in
-          subst (Bridge (order_at places runs states m) (at via w)) (sym e) (bridge_fed g w l v (λ r out. k.same r out.0.0 out w p) y b s d)
-      rule w l v (bare p q e) =
-          subst (Bridge (order_at places runs states m) (at via w)) (sym e) (bridge_bare g w l v (λ r out. k.same r out.0.0 out w p) (λ y b s d. q (f.all w y l b s d)))
+      rule : {k : Kind} (w : ℕ) → w < length places → at via w < m → Ruled (get_or passed w false) (get_or fed w false) k → Bridge (order_at places runs states m) (at via w) (kind_number k)
+      rule w l v (round p) = bridge_bypassed g w l v (k.new w p).round
+      rule w l v (supplied p q) = let (y, b, s, d) = f.some w l q in bridge_fed g w l v (λ r out. k.same r out.0.0 out w (unmarked p)) y b s d
+      rule w l v (bare p q) = bridge_bare g w l v (λ r out. k.same r out.0.0 out w (unmarked p)) (λ y b s d. unmarked q (f.all w y l b s d))
 
   -- and in any order that they describe
   pub kinds_told : Kinds places runs states m kinds
@@ -160,7 +148,7 @@ module _ (places runs states : List ℕ) (m : ℕ) {rank up via passed fed kinds
       from_ends : Joined o (Others o r) (o.u r) (o.v r) → Joined (order_at places runs states m) (Others (order_at places runs states m) r) (end_u sizes runs r) (end_v sizes runs r)
       from_ends p = joined_as (alike_sym like) from (subst (λ (j : ℕ). Joined o (Others o r) j (end_v sizes runs r)) (sym (like.u r)) (subst (Joined o (Others o r) (o.u r)) (sym (like.v r)) p))
 
-      other : Bridge (order_at places runs states m) r (at kinds r) → Bridge o r (at kinds r)
+      other : Bridge (order_at places runs states m) r (kind_number (get_or kinds r Bypassed)) → Bridge o r (kind_number (get_or kinds r Bypassed))
       other (bypassed p e) = bypassed (to_ends p) e
       other (both_fed n x y e) = both_fed (λ q. n (from_ends q)) (subst (Fed o (Others o r)) (like.u r) (fed_as like to x)) (subst (Fed o (Others o r)) (like.v r) (fed_as like to y)) e
       other (one_bare n b e) = one_bare (λ q. n (from_ends q))

@@ -1,9 +1,9 @@
 -- Which places have a supply under them: found from the last place of the growth back to the first.
-use Rattle.std.specs.Prelude.{ℕ, ◌+◌, ◌≤◌, ◌<◌, List, ◌⊎◌, ◌≡◌, refl, length, set}
+use Rattle.std.specs.Prelude.{ℕ, ◌+◌, ◌≤◌, ◌<◌, Bool, true, false, List, ◌↔◌, ◌⊎◌, ◌≡◌, refl, length, get_or, set}
 use Rattle.std.proofs.Common.{inl, inr, ⊎_elim, sym, ap, subst, ◌∙◌, length-set, get_or-set_same, get_or-set_other, arith}
 use Rattle.std.proofs.Math.Decide.{ℕ_discrete}
+use Rattle.bridges.specs.Climbed.{Marked}
 use Rattle.forest.specs.Grown.{Grown, Under, self, more}
-use Rattle.pieces.specs.Holds.{at}
 use Rattle.wirings.specs.Wiring.{Order}
 
 module _ {o : Order} {rank up via : ℕ → ℕ} where
@@ -32,37 +32,37 @@ module _ {o : Order} {rank up via : ℕ → ℕ} where
       | no q ↦ ⊎_elim (λ h. inl (more v (omega arith) h)) (λ (d, w, h). inr (d, w, more v (omega arith) h)) (split b.place u)
     ]
 
--- 1 for each place that has a supply under it, over ranks above k
-pub record Feeding (o : Order) (rank up via : ℕ → ℕ) (fed : List ℕ) (k : ℕ) : Type 0 where
+-- which places have a supply under them, over ranks above k
+pub record Feeding (o : Order) (rank up via : ℕ → ℕ) (fed : List Bool) (k : ℕ) : Type 0 where
   pub size : length fed ≡ 256
-  pub some : (z : ℕ) → z < o.n → at fed z ≡ 1 → (y : ℕ) × (y < o.n) × (o.supply y ≡ 1) × Under o rank up via k z y
-  pub all : (z y : ℕ) → z < o.n → y < o.n → o.supply y ≡ 1 → Under o rank up via k z y → at fed z ≡ 1
+  pub some : (z : ℕ) → z < o.n → Marked fed z → (y : ℕ) × (y < o.n) × (o.supply y ≡ 1) × Under o rank up via k z y
+  pub all : (z y : ℕ) → z < o.n → y < o.n → o.supply y ≡ 1 → Under o rank up via k z y → Marked fed z
 
 module _ {o : Order} {rank up via : ℕ → ℕ} (g : Grown o rank up via) where
-  pub feeding_start : {fed : List ℕ} {k : ℕ} → length fed ≡ 256 → ((y : ℕ) → y < o.n → rank y ≤ k) → ((y : ℕ) → y < o.n → at fed y ≡ o.supply y) → Feeding o rank up via fed k
-  feeding_start {fed} {k} s top h = record { size = s; some = λ z l e. (z, l, sym (h z l) ∙ e, self); all = λ z y l i p u. alone z y i p u }
+  pub feeding_start : {fed : List Bool} {k : ℕ} → length fed ≡ 256 → ((y : ℕ) → y < o.n → rank y ≤ k) → ((y : ℕ) → y < o.n → Marked fed y ↔ (o.supply y ≡ 1)) → Feeding o rank up via fed k
+  feeding_start {fed} {k} s top h = record { size = s; some = λ z l e. (z, l, (h z l).0 e, self); all = λ z y l i p u. alone z y i p u }
     where
-      alone : (z y : ℕ) → y < o.n → o.supply y ≡ 1 → Under o rank up via k z y → at fed z ≡ 1
-      alone z y i p self = h y i ∙ p
+      alone : (z y : ℕ) → y < o.n → o.supply y ≡ 1 → Under o rank up via k z y → Marked fed z
+      alone z y i p self = (h y i).1 p
       alone z y i p (more v c u) = absurd (omega (arith, top y i))
 
-  module _ {fed : List ℕ} {k x : ℕ} (h : Feeding o rank up via fed (k + 1)) (l : x < o.n) (e : rank x ≡ k + 1) where
+  module _ {fed : List Bool} {k x : ℕ} (h : Feeding o rank up via fed (k + 1)) (l : x < o.n) (e : rank x ≡ k + 1) where
     -- x hands its supply on
-    pub feeding_up : o.n ≤ 256 → via x < o.m → at fed x ≡ 1 → Feeding o rank up via (set fed (up x) 1) k
+    pub feeding_up : o.n ≤ 256 → via x < o.m → Marked fed x → Feeding o rank up via (set fed (up x) true) k
     feeding_up few v f = record {
-      size = length-set fed (up x) 1 ∙ h.size;
+      size = length-set fed (up x) true ∙ h.size;
       some = λ z i p. elim (ℕ_discrete z (up x)) [
         | yes q ↦ let (y, j, s, u) = h.some x l f in (y, j, s, subst (λ (j : ℕ). Under o rank up via k j y) (sym q) (over_top v (omega arith) (weaken u)))
-        | no n ↦ let (y, j, s, u) = h.some z i (sym (get_or-set_other fed (up x) z 1 0 n) ∙ p) in (y, j, s, weaken u)
+        | no n ↦ let (y, j, s, u) = h.some z i (sym (get_or-set_other fed (up x) z true false n) ∙ p) in (y, j, s, weaken u)
       ];
       all = λ z y i j s u. elim (ℕ_discrete z (up x)) [
-        | yes q ↦ ap (at (set fed (up x) 1)) q ∙ get_or-set_same fed (up x) 1 0 (omega (arith, h.size, (g.reached x l v).place))
-        | no n ↦ get_or-set_other fed (up x) z 1 0 n ∙ ⊎_elim (λ t. h.all z y i j s t) (λ t. absurd (n t.0)) (split g l e j u)
+        | yes q ↦ ap (λ (j : ℕ). get_or (set fed (up x) true) j false) q ∙ get_or-set_same fed (up x) true false (omega (arith, h.size, (g.reached x l v).place))
+        | no n ↦ get_or-set_other fed (up x) z true false n ∙ ⊎_elim (λ t. h.all z y i j s t) (λ t. absurd (n t.0)) (split g l e j u)
       ];
     }
 
     -- or has none to hand on, or nowhere to
-    pub feeding_pass : (via x < o.m → at fed x ≡ 1 → ⊥) → Feeding o rank up via fed k
+    pub feeding_pass : (via x < o.m → Marked fed x → ⊥) → Feeding o rank up via fed k
     feeding_pass n = record {
       size = h.size;
       some = λ z i p. let (y, j, s, u) = h.some z i p in (y, j, s, weaken u);

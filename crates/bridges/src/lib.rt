@@ -4,128 +4,117 @@
 // A function is kept out of line where its arrays are to leave the stack before others come.
 #![tactic(auto)]
 
-ghost use Rattle.std.specs.Prelude.{◌≡◌, ◌≤◌, length};
+ghost use Rattle.std.specs.Prelude.{◌≤◌, length};
 ghost use Rattle.pieces.specs.Holds.{Fits};
 ghost use Rattle.bridges.specs.Kinds.{Kinds};
-ghost use Rattle.bridges.specs.Routine.{Climbable, Climbs, Copied, Feedable, Feeds, Ruled, Concluded};
+ghost use Rattle.bridges.specs.Routine.{Climbable, Climbs, Supplies, Feedable, Feeds, Ruled, Concluded};
 
-// For each run whose state is above 0: 0 where others join its ends, else 1 where both sides hold a supply, 2 where one does not.
+use forest::Forest;
+use layout::Run;
+
+// What an unstruck run is: bypassed where others join its ends, else a bridge; supplied where both its sides hold a supply, bare where one does not.
+#[derive(Clone, Copy, Debug, PartialEq, Eq)]
+pub enum Kind {
+    Bypassed,
+    Supplied,
+    Bare,
+}
+
+// The kind of each run whose state is above 0.
 #[inline(never)]
-pub fn kinds(places: &[u8], runs: &[u8], states: [u8; 1024], m: usize) -> [u8; 1024]
+pub fn kinds(places: &[u8], runs: &[u8], states: [u8; 1024], m: usize) -> [Kind; 1024]
     requires { Fits places.now runs.now m }
     ensures { Kinds places.now runs.now states m result }
 {
     let grown = forest::grow(places, runs, states, m);
-    let rank = grown.rank;
-    let up = grown.up;
-    let via = grown.via;
-    let order = grown.order;
-    let mut passed = [0u8; 256];
-    let mut r = 0;
-    while r < m {
+    let mut passed = [false; 256];
+    for r in 0..m {
         if 0 < states[r] {
-            let run = layout::run_at(runs, r);
-            let u = run.u;
-            let v = run.v;
-            if wide(via[u]) != r {
-                if wide(via[v]) != r {
-                    climb(&rank, &up, &mut passed, u, v);
-                }
+            let Run { u, v, .. } = layout::run_at(runs, r);
+            if usize::from(grown.via[u]) != r && usize::from(grown.via[v]) != r {
+                climb(&grown, &mut passed, u, v);
             }
         }
-        r += 1;
     }
-    let fed = fed(places, order, up, via, m);
-    conclude(via, passed, fed, places.len(), m)
+    let fed = fed(places, &grown, m);
+    conclude(&grown, &passed, &fed, places.len(), m)
 }
 
 // Climbs from two places to where their ways meet, always from the one that came later, and marks the places passed.
-fn climb(rank: &[u16; 256], up: &[u16; 256], passed: &mut [u8; 256], u: usize, v: usize)
-    requires climbable { Climbable rank.now up.now u v }
-    requires size { length passed.old ≡ 256 }
-    ensures { Climbs rank.now up.now u v passed.old passed.new }
+fn climb(grown: &Forest, passed: &mut [bool; 256], u: usize, v: usize)
+    requires { Climbable grown.now.rank grown.now.up u v }
+    ensures { Climbs grown.now.rank grown.now.up u v passed.old passed.new }
 {
     let mut a = u;
     let mut b = v;
     while a != b {
-        if rank[b] < rank[a] {
-            passed[a] = 1;
-            a = wide(up[a]);
+        if grown.rank[b] < grown.rank[a] {
+            passed[a] = true;
+            a = usize::from(grown.up[a]);
         } else {
-            passed[b] = 1;
-            b = wide(up[b]);
+            passed[b] = true;
+            b = usize::from(grown.up[b]);
         }
     }
 }
 
-fn wide(x: u16) -> usize
-    ensures { result ≡ x }
-{
-    x as usize
-}
-
-// The byte of each place, and 0 past the last.
-fn supplies(places: &[u8]) -> [u8; 256]
+// Which places hold a supply.
+fn supplies(places: &[u8]) -> [bool; 256]
     requires { length places.now ≤ 256 }
-    ensures { Copied places.now (length places.now) result }
+    ensures { Supplies places.now (length places.now) result }
 {
-    let mut bytes = [0u8; 256];
-    let mut y = 0;
-    while y < places.len() {
-        bytes[y] = places[y];
-        y += 1;
+    let mut supplies = [false; 256];
+    for (y, place) in places.iter().enumerate() {
+        supplies[y] = *place == 1;
     }
-    bytes
+    supplies
 }
 
-// 1 for each place that has a supply under it, itself included.
+// Which places have a supply under them, themselves included.
 #[inline(never)]
-fn fed(places: &[u8], order: [u16; 256], up: [u16; 256], via: [u16; 256], m: usize) -> [u8; 256]
-    requires { Feedable (length places.now) order up via m }
-    ensures { Feeds places.now order up via m result }
+fn fed(places: &[u8], grown: &Forest, m: usize) -> [bool; 256]
+    requires { Feedable (length places.now) grown.now.order grown.now.up grown.now.via m }
+    ensures { Feeds places.now grown.now.order grown.now.up grown.now.via m result }
 {
     let mut fed = supplies(places);
-    let mut k = places.len();
-    while 0 < k {
-        k -= 1;
-        let x = order[k] as usize;
-        if (via[x] as usize) < m {
-            if fed[x] == 1 {
-                let p = up[x] as usize;
-                fed[p] = 1;
-            }
+    for k in (0..places.len()).rev() {
+        let x = usize::from(grown.order[k]);
+        if usize::from(grown.via[x]) < m && fed[x] {
+            fed[usize::from(grown.up[x])] = true;
         }
     }
     fed
 }
 
 // The kind of the run to a place.
-fn kind(passed: u8, fed: u8) -> u8
+fn kind_of(passed: bool, fed: bool) -> Kind
     ensures { Ruled passed fed result }
 {
-    if 0 < passed {
-        return 0;
+    match (passed, fed) {
+        (true, _) => Kind::Bypassed,
+        (false, true) => Kind::Supplied,
+        (false, false) => Kind::Bare,
     }
-    if fed == 1 {
-        return 1;
-    }
-    2
 }
 
-// The kinds of the runs to n places, and 0 for the others.
+// The kinds of the runs to n places, and bypassed for the others.
 #[inline(never)]
-fn conclude(via: [u16; 256], passed: [u8; 256], fed: [u8; 256], n: usize, m: usize) -> [u8; 1024]
+fn conclude(
+    grown: &Forest,
+    passed: &[bool; 256],
+    fed: &[bool; 256],
+    n: usize,
+    m: usize,
+) -> [Kind; 1024]
     requires { (n ≤ 256) × (m ≤ 1024) }
-    ensures { Concluded via passed fed n m result }
+    ensures { Concluded grown.now.via passed.now fed.now n m result }
 {
-    let mut kinds = [0u8; 1024];
-    let mut x = 0;
-    while x < n {
-        let r = via[x] as usize;
+    let mut kinds = [Kind::Bypassed; 1024];
+    for x in 0..n {
+        let r = usize::from(grown.via[x]);
         if r < m {
-            kinds[r] = kind(passed[x], fed[x]);
+            kinds[r] = kind_of(passed[x], fed[x]);
         }
-        x += 1;
     }
     kinds
 }

@@ -2,10 +2,9 @@
 use Rattle.std.specs.Prelude.{ℕ, ◌+◌, ◌-◌, ◌*◌, ◌≤◌, ◌<◌, List, ◌⊎◌, ◌≡◌, refl, length, set}
 use Rattle.std.proofs.Common.{inl, inr, ⊎_elim, sym, ap, subst, ◌∙◌, length-set, get_or-set_same, get_or-set_other, le_refl, arith}
 use Rattle.std.proofs.Math.Decide.{ℕ_discrete, dec_lt}
-use Rattle.forest.specs.Grown.{Reached, Grown}
+use Rattle.forest.specs.Grown.{Reached}
 use Rattle.forest.specs.Links.{Entry, entry_leads, entry_below, Before, Linked}
 use Rattle.pieces.specs.Holds.{at}
-use Rattle.wirings.specs.Joined.{leads_back}
 use Rattle.wirings.specs.Limits.{Unstruck}
 use Rattle.wirings.proofs.Limits.{counts_more, counts_most, counts_less}
 use Rattle.wirings.specs.Wiring.{Order, Leads, Counts}
@@ -259,14 +258,3 @@ module _ {o : Order} {order rank up via : List ℕ} {count : ℕ} (inside : (r y
     where
       was_old : (x : ℕ) → x < o.n → 0 < at (set rank z (count + 1)) x → (x ≡ z → ⊥) → 0 < at rank x
       was_old x k b n = omega (arith, get_or-set_other rank z x (count + 1) 0 n)
-
--- ---- when every place is there, the forest is grown
-pub grown : {o : Order} {order rank up via : List ℕ} {count i : ℕ} → ((r y z : ℕ) → Unstruck o r → Leads o r y z → z < o.n)
-    → Placed o order rank up via count → Roots o rank via i → 2 * o.n < i → Grown o (at rank) (at up) (at via)
-grown {o} {rank = rank} inside h t end = let all : (y : ℕ) → y < o.n → 0 < at rank y = λ y l. t.places y (omega arith) l in record {
-  apart = λ x y l k e. placed_apart h x y l k (all x l) e;
-  reached = λ x l v. h.reached x l (all x l) v;
-  closed = λ x l m r y z u d b. (t.closed x l (all x l) m r y z u d (all y (inside r z y u (leads_back d))) b).1;
-  fed = λ x l m n y k s. (t.fed x l (all x l) m n y k s).1;
-  inside = inside;
-}

@@ -1,5 +1,5 @@
 -- What the growth and its parts promise.
-use Rattle.std.specs.Prelude.{ℕ, ◌+◌, ◌*◌, ◌%◌, ◌≤◌, ◌<◌, List, ◌≡◌, length}
+use Rattle.std.specs.Prelude.{ℕ, ◌+◌, ◌*◌, ◌%◌, ◌≤◌, ◌<◌, List, ◌≡◌, length, Option, Some, None}
 use Rattle.forest.specs.Links.{Linked}
 use Rattle.layout.specs.Layout.{sizes, end_u, end_v}
 use Rattle.pieces.specs.Holds.{at, Fits}
@@ -19,10 +19,10 @@ pub record Far (e u v z : ℕ) : Type 0 where
   pub odd : (e % 2 ≡ 0 → ⊥) → z ≡ u
 
 -- candidate i is a place that is not there yet; or none is to be taken
-pub data Candidate (places rank : List ℕ) (i r : ℕ) : Type 0 where
-  supply : i < length places → r ≡ i → at places i ≡ 1 → at rank r ≡ 0 → Candidate places rank i r
-  place : r < length places → length places + r ≡ i → at rank r ≡ 0 → Candidate places rank i r
-  none : r ≡ length places → (i < length places → at places i ≡ 1 → 0 < at rank i) → ((y : ℕ) → length places + y ≡ i → y < length places → 0 < at rank y) → Candidate places rank i r
+pub data Candidate (places rank : List ℕ) (i : ℕ) : Option ℕ → Type 0 where
+  supply : i < length places → at places i ≡ 1 → at rank i ≡ 0 → Candidate places rank i (Some i)
+  place : {z : ℕ} → z < length places → length places + z ≡ i → at rank z ≡ 0 → Candidate places rank i (Some z)
+  none : (i < length places → at places i ≡ 1 → 0 < at rank i) → ((y : ℕ) → length places + y ≡ i → y < length places → 0 < at rank y) → Candidate places rank i None
 
 -- the places in the order of their ranks
 pub record Ranked (n : ℕ) (order rank : List ℕ) : Type 0 where
