@@ -1,9 +1,9 @@
 -- From what the piece finder found by the fixed runs and by the unstruck ones to numbers 9 to 11.
-use Rattle.std.specs.Prelude.{ℕ, min, ◌≤◌, ◌<◌, List, ◌≡◌, eqb, ltb, length, get_or, take}
+use Rattle.std.specs.Prelude.{ℕ, min, ◌≤◌, ◌<◌, List, ◌≡◌, eqb, ltb, length, get_or, take, Option}
 use Rattle.std.proofs.Common.{sym, ap, subst, ◌∙◌, lt-ltb, le-ltb, eq-eqb, ne_eqb, eqb-true, get_or-take, arith}
 use Rattle.std.proofs.Math.Decide.{ℕ_discrete, dec_lt}
-use Rattle.answer.specs.Laws.{first_alike}
-use Rattle.answer.specs.Table.{First, Clears}
+use Rattle.answer.specs.Laws.{finds_alike}
+use Rattle.answer.specs.Table.{Finds, Clears}
 use Rattle.confirm.specs.Judged.{StatesOf}
 use Rattle.layout.specs.Layout.{sizes, runs_in, end_u, end_v, Fields}
 use Rattle.layout.proofs.Laws.{whole_runs, counts}
@@ -62,9 +62,9 @@ module _ (f : Fields) (states flags : List ℕ) (stated : StatesOf f.runs (runs_
   unstruck_labels x = ap (λ (L : List ℕ). labels (end_u sizes f.runs) (end_v sizes f.runs) L x) (states_choose (runs_in sizes f.runs) (omega arith))
 
   -- 9: the first flagged run whose ends earlier ones join is the first fixed run that closes a loop
-  pub closing_first : Flags states (runs_in sizes f.runs) flags → {closing : ℕ}
-      → First (holds.Opens f.runs (take (runs_in sizes f.runs) flags)) (runs_in sizes f.runs) closing → First (Opens (order_of f)) (runs_in sizes f.runs) closing
-  closing_first g h = first_alike to from h
+  pub closing_first : Flags states (runs_in sizes f.runs) flags → {closing : Option ℕ}
+      → Finds (holds.Opens f.runs (take (runs_in sizes f.runs) flags)) (runs_in sizes f.runs) closing → Finds (Opens (order_of f)) (runs_in sizes f.runs) closing
+  closing_first g h = finds_alike to from h
     where
       earlier : (r : ℕ) → r < runs_in sizes f.runs → (x : ℕ) → labels_of f.runs (take (runs_in sizes f.runs) flags) r x ≡ label (order_of f) (chosen (λ j. eqb ((order_of f).state j) 2) r) x
       earlier r l x = ap (λ (L : List ℕ). labels (end_u sizes f.runs) (end_v sizes f.runs) L x) (fixed_choose g r (omega arith))
@@ -109,10 +109,10 @@ module _ (f : Fields) (sound : Clears (sound_rows sizes f)) (L found fed : List 
 
 -- 10: the first place whose label by the unstruck runs holds no supply is the first that these do not join with one
 pub bare_first : (f : Fields) (sound : Clears (sound_rows sizes f)) (found fed : List ℕ) → (labelled : Holds (label (order_of f) (unstruck_runs (order_of f))) found)
-    → (supplied : Holds (λ x. min 1 (stock (length f.places) (at f.places) (at found) x)) fed) → {bare : ℕ}
-    → First (λ x. 0 < at fed (at found x)) (length f.places) bare → First (Reached (order_of f)) (length f.places) bare
+    → (supplied : Holds (λ x. min 1 (stock (length f.places) (at f.places) (at found) x)) fed) → {bare : Option ℕ}
+    → Finds (λ x. 0 < at fed (at found x)) (length f.places) bare → Finds (Reached (order_of f)) (length f.places) bare
 bare_first f sound found fed labelled supplied h =
-    first_alike
+    finds_alike
     (λ x l p. fed_mono (in_unstruck (order_of f)) (stocked_fed (order_of f) (order_sound f sound).bit G x (omega (arith, at_label f sound G found fed labelled supplied x l))))
     (λ x l p. omega (arith, at_label f sound G found fed labelled supplied x l, fed_stocked (order_of f) (order_sound f sound).bit G (fed_mono (λ r q. unstruck_in (order_of f) r q.0 q.1) p)))
     h

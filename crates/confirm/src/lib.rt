@@ -2,37 +2,36 @@
 // A function is kept out of line where its arrays are to leave the stack before others come.
 #![tactic(auto)]
 
-ghost use Rattle.std.specs.Prelude.{◌≡◌, ℕ, ◌*◌, ◌≤◌, ◌<◌, length, get_or};
-ghost use Rattle.answer.specs.Table.{First, Clears};
-ghost use Rattle.wirings.specs.Wiring.{Counts};
+ghost use Rattle.std.specs.Prelude.{◌≡◌, ℕ, ◌*◌, ◌≤◌, ◌<◌, length, get_or, Ok, IfSome};
+ghost use Rattle.answer.specs.Table.{Finds};
+ghost use Rattle.wirings.specs.Wiring.{Counts as Counted};
 ghost use Rattle.layout.specs.Layout.{sizes, runs_in};
-ghost use Rattle.layout.specs.Rows.{sound_rows};
+ghost use Rattle.layout.specs.Sound.{fields};
 ghost use Rattle.pieces.specs.Holds.{at, Ended};
 ghost use Rattle.confirm.specs.Judged.{StatesOf, Weighs, Judges};
 ghost use Rattle.confirm.specs.Concluded.{Confirms};
 ghost use Rattle.confirm.specs.Marked.{Ruled};
 ghost use Rattle.confirm.specs.Ready.{MarkedTo};
+ghost use Rattle.bridges.specs.Kinds.{kind_number};
 
-use answer::Range;
-use layout::{Checked, RUN};
+use answer::{Counts, Range, Refusal};
+use bridges::Kind;
+use layout::{Run, SoundForm};
 
-// What numbers 9 to 11 say of a form and, where they say nothing against it: a byte for each run, its confirmed state; another, 1 where the first
-// wiring uses it; each place's segment number; line four; and how many possible runs were struck, and pinned.
+// A byte for each run, its confirmed state; another, 1 where the first wiring uses it; each place's segment number; line four; and how many
+// possible runs were struck, and pinned.
 #[derive(Clone, Copy)]
 pub struct Confirmation {
-    pub verdict: Checked,
     pub marks: [u8; 1024],
     pub used: [u8; 1024],
     pub segments: [u16; 256],
     pub line: Range,
-    pub struck: u16,
-    pub pinned: u16,
+    pub counts: Counts,
 }
 
-// What numbers 9 to 11 say, and what was found on the way: the labels by the fixed runs, which of them hold a supply, MIN and MAX.
+// What numbers 9 to 11 found on the way: the labels by the fixed runs, which of them hold a supply, MIN and MAX.
 #[derive(Drop)]
 struct Judged {
-    verdict: Checked,
     labels: [u16; 256],
     fed: [u8; 256],
     least: usize,
@@ -44,76 +43,55 @@ fn states(runs: &[u8], m: usize) -> [u8; 1024]
     requires { (m ≤ 1024) × (5 * m ≤ length runs.now) }
     ensures { StatesOf runs.now m result }
 {
-    let mut states = [0u8; 1024];
-    let mut r = 0;
-    while r < m {
-        let run = layout::run_at(runs, r);
-        states[r] = run.state;
-        r += 1;
+    let mut states = [0; 1024];
+    for r in 0..m {
+        states[r] = layout::run_at(runs, r).state;
     }
     states
 }
 
 // Number 10: the first place whose piece holds no supply.
-fn first_bare(labels: [u16; 256], fed: [u8; 256], n: usize) -> usize
+fn first_bare(labels: [u16; 256], fed: [u8; 256], n: usize) -> Option<usize>
     requires { (n ≤ 256) × ((x : ℕ) → x < 256 → at labels x < 256) }
-    ensures { First (λ x. 0 < at fed (at labels x)) n result }
+    ensures { Finds (λ x. 0 < at fed (at labels x)) n result }
 {
-    let mut x = 0;
-    while x < n {
-        let label = labels[x] as usize;
-        if fed[label] == 0 {
-            return x;
+    for x in 0..n {
+        if fed[usize::from(labels[x])] == 0 {
+            return Some(x);
         }
-        x += 1;
     }
-    x
+    None
 }
 
 // The first of numbers 9 to 11 that has a fault.
 fn verdict(
-    closing: usize,
-    m: usize,
-    bare: usize,
-    n: usize,
+    closing: Option<usize>,
+    bare: Option<usize>,
     line: Range,
     least: usize,
     most: usize,
-) -> Checked
-    requires { (m ≤ 1024) × (n ≤ 256) }
-    ensures { Weighs closing m bare n line.low line.high least most result }
+) -> Result<(), Refusal>
+    requires { IfSome closing (λ r. r < 1024) × IfSome bare (λ x. x < 256) }
+    ensures { Weighs closing bare line.low line.high least most result }
 {
-    if closing < m {
-        return Checked::Unsound {
-            number: 9,
-            place: closing as u16,
-        };
+    if let Some(run) = closing {
+        let run = run as u16;
+        return Err(Refusal::FixedLoop { run });
     }
-    if bare < n {
-        return Checked::Unsound {
-            number: 10,
-            place: bare as u16,
-        };
+    if let Some(place) = bare {
+        let place = place as u16;
+        return Err(Refusal::NoSupply { place });
     }
-    if (line.high as usize) < least {
-        return Checked::Unsound {
-            number: 11,
-            place: 0,
-        };
+    if usize::from(line.high) < least || most < usize::from(line.low) {
+        return Err(Refusal::NoSuchCount);
     }
-    if most < line.low as usize {
-        return Checked::Unsound {
-            number: 11,
-            place: 0,
-        };
-    }
-    Checked::Sound
+    Ok(())
 }
 
 // The confirmed state of a run, from its state, the labels of its ends by the fixed runs and whether these hold a supply, its kind of bridge,
 // whether low is MAX, and whether high is MIN.
-fn mark(state: u8, a: u16, b: u16, fa: u8, fb: u8, kind: u8, tight: bool, last: bool) -> u8
-    ensures { Ruled state a b fa fb kind tight last result }
+fn mark(state: u8, a: u16, b: u16, fa: u8, fb: u8, kind: Kind, tight: bool, last: bool) -> u8
+    ensures { Ruled state a b fa fb (kind_number kind) tight last result }
 {
     if state != 1 {
         return state;
@@ -121,38 +99,26 @@ fn mark(state: u8, a: u16, b: u16, fa: u8, fb: u8, kind: u8, tight: bool, last: 
     if a == b {
         return 0;
     }
-    if tight {
-        if fa == 1 {
-            if fb == 1 {
-                return 0;
-            }
-        }
+    if tight && fa == 1 && fb == 1 {
+        return 0;
     }
-    if kind == 2 {
-        return 2;
+    match kind {
+        Kind::Bypassed => 1,
+        Kind::Supplied => { if last { 2 } else { 1 } }
+        Kind::Bare => 2,
     }
-    if last {
-        if kind == 1 {
-            return 2;
-        }
-    }
-    1
 }
 
 // How many possible runs have been given a state.
 fn count(states: [u8; 1024], marks: [u8; 1024], m: usize, state: u8) -> u16
     requires { m ≤ 1024 }
-    ensures { Counts (λ j. (get_or states j 0 ≡ 1) × (get_or marks j 0 ≡ state)) m result }
+    ensures { Counted (λ j. (get_or states j 0 ≡ 1) × (get_or marks j 0 ≡ state)) m result }
 {
-    let mut k: u16 = 0;
-    let mut r = 0;
-    while r < m {
-        if states[r] == 1 {
-            if marks[r] == state {
-                k += 1;
-            }
+    let mut k = 0;
+    for r in 0..m {
+        if states[r] == 1 && marks[r] == state {
+            k += 1;
         }
-        r += 1;
     }
     k
 }
@@ -162,132 +128,97 @@ fn marks(
     runs: &[u8],
     line: Range,
     states: [u8; 1024],
-    labels: [u16; 256],
-    fed: [u8; 256],
-    kinds: [u8; 1024],
-    least: usize,
-    most: usize,
+    judged: &Judged,
+    kinds: [Kind; 1024],
 ) -> [u8; 1024]
     requires few { runs_in sizes runs.now ≤ 1024 }
     requires ended { Ended runs.now (runs_in sizes runs.now) }
-    requires labelled { (x : ℕ) → x < 256 → at labels x < 256 }
-    ensures { MarkedTo runs.now line.low line.high states labels fed kinds least most (runs_in sizes runs.now) result }
+    requires labelled { (x : ℕ) → x < 256 → at judged.now.labels x < 256 }
+    ensures { MarkedTo runs.now line.low line.high states judged.now.labels judged.now.fed kinds judged.now.least judged.now.most (runs_in sizes runs.now) result }
 {
-    let m = (runs.len() + (RUN - 1)) / RUN;
-    let low = line.low as usize;
-    let high = line.high as usize;
-    let tight = most <= low;
-    let last = high <= least;
-    let mut marks = [0u8; 1024];
-    let mut r = 0;
-    while r < m {
-        let run = layout::run_at(runs, r);
-        let u = run.u;
-        let v = run.v;
-        let a = labels[u];
-        let b = labels[v];
-        marks[r] = mark(
-            states[r],
-            a,
-            b,
-            fed[a as usize],
-            fed[b as usize],
-            kinds[r],
-            tight,
-            last,
-        );
-        r += 1;
+    let low = usize::from(line.low);
+    let high = usize::from(line.high);
+    let tight = judged.most <= low;
+    let last = high <= judged.least;
+    let mut marks = [0; 1024];
+    for r in 0..layout::count(runs) {
+        let Run { u, v, .. } = layout::run_at(runs, r);
+        let a = judged.labels[u];
+        let b = judged.labels[v];
+        let fa = judged.fed[usize::from(a)];
+        let fb = judged.fed[usize::from(b)];
+        marks[r] = mark(states[r], a, b, fa, fb, kinds[r], tight, last);
     }
     marks
 }
 
 // Numbers 9 to 11, in their order.
 #[inline(never)]
-fn judge(places: &[u8], runs: &[u8], line: Range, states: [u8; 1024]) -> Judged
-    requires clears { Clears (sound_rows sizes (record { places = places.now; runs = runs.now; low = line.low; high = line.high })) }
-    requires states_of { StatesOf runs.now (runs_in sizes runs.now) states }
-    ensures { Judges (record { places = places.now; runs = runs.now; low = line.low; high = line.high }) result.verdict result.labels result.fed result.least result.most }
+fn judge(form: SoundForm, states: [u8; 1024]) -> Result<Judged, Refusal>
+    requires { StatesOf form.runs.now (runs_in sizes form.runs.now) states }
+    ensures { Judges (fields form.entry) result }
 {
-    let n = places.len();
-    let m = (runs.len() + (RUN - 1)) / RUN;
+    let n = form.places.len();
+    let m = layout::count(form.runs);
     let fixed = scan::fixed(states, m);
-    let by_fixed = pieces::find(runs, &fixed[..m]);
-    let by_unstruck = pieces::find(runs, &states[..m]);
+    let by_fixed = pieces::find(form.runs, &fixed[..m]);
+    let by_unstruck = pieces::find(form.runs, &states[..m]);
     let labels = by_fixed.labels;
     let all = by_unstruck.labels;
-    let fed = pieces::supplied(labels, places);
-    let reached = pieces::supplied(all, places);
-    let closing = by_fixed.closing;
+    let fed = pieces::supplied(labels, form.places);
+    let reached = pieces::supplied(all, form.places);
     let bare = first_bare(all, reached, n);
     let least = pieces::count(all, n);
-    let most = pieces::count_supplied(labels, fed, places);
-    let verdict = verdict(closing, m, bare, n, line, least, most);
-    Judged {
-        verdict,
+    let most = pieces::count_supplied(labels, fed, form.places);
+    verdict(by_fixed.closing, bare, form.line, least, most)?;
+    Ok(Judged {
         labels,
         fed,
         least,
         most,
-    }
+    })
 }
 
 // The confirmation of a form that numbers 9 to 11 say nothing against.
-fn conclude(
-    places: &[u8],
-    runs: &[u8],
-    line: Range,
-    states: [u8; 1024],
-    judged: Judged,
-) -> Confirmation
-    requires clears { Clears (sound_rows sizes (record { places = places.now; runs = runs.now; low = line.low; high = line.high })) }
-    requires states_of { StatesOf runs.now (runs_in sizes runs.now) states }
-    requires judges { Judges (record { places = places.now; runs = runs.now; low = line.low; high = line.high }) judged.verdict judged.labels judged.fed judged.least judged.most }
-    requires sound { judged.verdict ≡ Checked.Sound }
-    ensures { Confirms (record { places = places.now; runs = runs.now; low = line.low; high = line.high }) result.verdict result.marks result.used result.segments result.line.low result.line.high result.struck result.pinned }
+fn conclude(form: SoundForm, states: [u8; 1024], judged: Judged) -> Confirmation
+    requires states_of { StatesOf form.runs.now (runs_in sizes form.runs.now) states }
+    requires judges { Judges (fields form) (Ok judged) }
+    ensures { Confirms (fields form.entry) (Ok result) }
 {
-    let m = (runs.len() + (RUN - 1)) / RUN;
-    let labels = judged.labels;
-    let fed = judged.fed;
-    let least = judged.least;
-    let most = judged.most;
+    let SoundForm {
+        places,
+        runs,
+        line,
+        ..
+    } = form;
+    let m = layout::count(runs);
     let kinds = bridges::kinds(places, runs, states, m);
-    let marks = marks(runs, line, states, labels, fed, kinds, least, most);
+    let marks = marks(runs, line, states, &judged, kinds);
+    let Judged { least, most, .. } = judged;
     let narrowed = line.narrowed(Range {
         low: least as u16,
         high: most as u16,
     });
-    let wired = scan::scan(places, runs, states, m, most - narrowed.high as usize);
+    let wired = scan::scan(places, runs, states, m, most - usize::from(narrowed.high));
     let used = wired.used;
     let segments = wired.labels;
     Confirmation {
-        verdict: Checked::Sound,
         marks,
         used,
         segments,
         line: narrowed,
-        struck: count(states, marks, m, 0),
-        pinned: count(states, marks, m, 2),
+        counts: Counts {
+            struck: count(states, marks, m, 0),
+            pinned: count(states, marks, m, 2),
+        },
     }
 }
 
-// Numbers 9 to 11, and the confirmation.
-pub fn confirm(places: &[u8], runs: &[u8], line: Range) -> Confirmation
-    requires { Clears (sound_rows sizes (record { places = places.now; runs = runs.now; low = line.low; high = line.high })) }
-    ensures { Confirms (record { places = places.now; runs = runs.now; low = line.low; high = line.high }) result.verdict result.marks result.used result.segments result.line.low result.line.high result.struck result.pinned }
+// The confirmation, or the first of numbers 9 to 11 that refuses the form.
+pub fn confirm(form: SoundForm) -> Result<Confirmation, Refusal>
+    ensures { Confirms (fields form.entry) result }
 {
-    let states = states(runs, (runs.len() + (RUN - 1)) / RUN);
-    let judged = judge(places, runs, line, states);
-    let verdict = judged.verdict;
-    if let Checked::Unsound { number, place } = verdict {
-        return Confirmation {
-            verdict: Checked::Unsound { number, place },
-            marks: [0; 1024],
-            used: [0; 1024],
-            segments: [0; 256],
-            line,
-            struck: 0,
-            pinned: 0,
-        };
-    }
-    conclude(places, runs, line, states, judged)
+    let states = states(form.runs, layout::count(form.runs));
+    let judged = judge(form, states)?;
+    Ok(conclude(form, states, judged))
 }

@@ -3,7 +3,8 @@
 use Rattle.std.specs.Prelude.{ℕ, ◌<◌, List, ◌↔◌, ◌≡◌, length, take}
 use Rattle.std.proofs.Common.{sym, ap, subst, ◌∙◌, arith}
 use Rattle.answer.specs.Laws.{not_refused, settled_last, cleared, clears_join, clear}
-use Rattle.answer.specs.Reply.{accepted, Counts}
+use Rattle.answer.specs.declared.Counts.{Counts}
+use Rattle.answer.specs.Reply.{accepted}
 use Rattle.answer.specs.Table.{Clears}
 use Rattle.filter.specs.Filtered.{Lent, Left, Room, later_rows, confirmed_fields, Accepted, Leaves}
 use Rattle.filter.specs.Restated.{states_are, still_sound, form_left}

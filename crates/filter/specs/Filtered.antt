@@ -1,7 +1,8 @@
 -- What the filter promises: its reply and every byte of the three lent buffers, by the lawful wirings of the form.
-use Rattle.std.specs.Prelude.{ℕ, zero, suc, ◌+◌, ◌*◌, ◌≤◌, ◌<◌, Bool, true, false, List, ◌∷◌, ◌++◌, ◌≡◌, length, get_or, set}
-use Rattle.answer.specs.declared.Answer.{Answer}
-use Rattle.answer.specs.Reply.{Reply, accepted, refused, Counts, told}
+use Rattle.std.specs.Prelude.{ℕ, zero, suc, ◌+◌, ◌*◌, ◌≤◌, ◌<◌, Bool, true, false, List, ◌∷◌, ◌++◌, ◌≡◌, length, get_or, set, Result}
+use Rattle.answer.specs.declared.Counts.{Counts}
+use Rattle.answer.specs.declared.Refusal.{Refusal}
+use Rattle.answer.specs.Reply.{Reply, accepted, refused, told}
 use Rattle.answer.specs.Table.{Row, whole, Settled}
 use Rattle.layout.specs.Layout.{sizes, runs_in, Fields, length_for, image, over}
 use Rattle.layout.specs.Rows.{fields_of, read_rows}
@@ -73,7 +74,7 @@ pub record Accepted (f : Fields) (lent : Lent) (left : Left) : Type 0 where
 abbrev pub Leaves : List ℕ → Lent → Left → Type 0
 Leaves s lent = Settled (λ number k. record { reply = refused number k; lent = lent }) (filter_rows s lent) (Accepted (fields_of sizes s) lent)
 
-abbrev pub Filters : List ℕ → List ℕ → List ℕ → List ℕ → Answer → List ℕ → List ℕ → List ℕ → Type 0
+abbrev pub Filters : List ℕ → List ℕ → List ℕ → List ℕ → Result Counts Refusal → List ℕ → List ℕ → List ℕ → Type 0
 Filters s form wiring segments r form' wiring' segments' =
     Leaves s (record { form = form; wiring = wiring; segments = segments })
     (record { reply = told r; lent = record { form = form'; wiring = wiring'; segments = segments' } })

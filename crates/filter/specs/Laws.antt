@@ -1,11 +1,9 @@
 -- One turn of each loop that writes.
-use Rattle.std.specs.Prelude.{ℕ, zero, suc, ◌+◌, ◌*◌, ◌<◌, List, ◌≡◌, refl, length, get_or, set}
+use Rattle.std.specs.Prelude.{ℕ, zero, suc, ◌+◌, ◌*◌, ◌<◌, List, ◌≡◌, refl, length, get_or, set, take}
 use Rattle.std.proofs.Common.{sym, subst, ◌∙◌, length-set, get_or-set_same, get_or-set_other, add-one, arith}
 use Rattle.std.proofs.Math.Decide.{ℕ_discrete}
-use Rattle.answer.specs.declared.Answer.{Answer}
-use Rattle.answer.specs.declared.Range.{Range}
 use Rattle.filter.specs.Filtered.{restated, Written}
-use Rattle.reader.specs.declared.Reading.{Reading}
+use Rattle.layout.specs.Layout.{over_at}
 
 pub restated_none : (f : ℕ → ℕ) (runs : List ℕ) → restated f 0 runs ≡ runs
 unfolding restated
@@ -36,9 +34,7 @@ written_more {f} {k} {v} {before} {after} w l e = record {
 pub written_end : {f : ℕ → ℕ} {j k : ℕ} {before after : List ℕ} → Written f j before after → j ≡ k → Written f k before after
 written_end {f} {before = before} {after} w e = subst (λ (i : ℕ). Written f i before after) e w
 
--- ---- an answer that passes the reader's refusal on
-pub passed_on : {a b i j : ℕ} → Reading.Refused a b ≡ Reading.Refused i j → Answer.Refused a b ≡ Answer.Refused i j
-passed_on e = cc
-
-pub no_refusal : {a b i j : ℕ} {line : Range} → Reading.Form a b line ≡ Reading.Refused i j → ⊥
-no_refusal e = let z : ◌≡◌ {A = ℕ} 0 1 = cc in omega arith
+-- values put at the start of a buffer are the first that are written
+pub written_put : {f : ℕ → ℕ} (k : ℕ) (values before : List ℕ) {after : List ℕ} → k ≤ length values → k ≤ length before
+    → ((j : ℕ) → j < k → get_or values j 0 ≡ f j) → after ≡ over_at 0 (take k values) before → Written f k before after
+written_put k values before within room says e = ?

@@ -6,7 +6,8 @@ use Rattle.std.proofs.Math.Path.{ap}
 use Rattle.std.proofs.Math.ListN.{get_or}
 use Rattle.std.proofs.Math.Decide.{ℕ_discrete}
 use Rattle.answer.specs.Laws.{not_refused, accepted_one, clear}
-use Rattle.answer.specs.Reply.{accepted, refused, Counts}
+use Rattle.answer.specs.declared.Counts.{Counts}
+use Rattle.answer.specs.Reply.{accepted, refused}
 use Rattle.answer.specs.Table.{Clears}
 use Rattle.filter.specs.Demand2.{lawful_confirmed}
 use Rattle.filter.specs.Filtered.{Lent, Left, Room, restated, Accepted, Leaves}

@@ -1,3 +1,4 @@
 pub mod Layout
 pub mod Rows
 pub mod Checked
+pub mod Sound

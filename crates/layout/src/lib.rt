@@ -2,9 +2,9 @@
 #![tactic(auto)]
 
 ghost use Rattle.std.specs.Prelude.{◌≡◌, ◌+◌, ◌*◌, ◌≤◌, ◌<◌, length};
-ghost use Rattle.answer.specs.Table.{Finds, Decides};
+ghost use Rattle.answer.specs.Table.{Finds, Decides, Clears};
 ghost use Rattle.layout.specs.Layout.{sizes, runs_in, Shows, line_four_bytes, over_at};
-ghost use Rattle.layout.specs.Rows.{Numbers, Place, Good, Fresh};
+ghost use Rattle.layout.specs.Rows.{Numbers, Place, Good, Fresh, sound_rows};
 ghost use Rattle.layout.specs.Checked.{Checks};
 
 use answer::{Range, Refusal};
@@ -25,6 +25,15 @@ pub struct Run {
     pub u: usize,
     pub v: usize,
     pub state: u8,
+}
+
+// The fields of a form that numbers 2 and 4 to 7 have nothing against: a byte for each place, the records of the runs, and line four.
+#[derive(Clone, Copy)]
+pub struct SoundForm<'a> {
+    pub places: &'a [u8],
+    pub runs: &'a [u8],
+    pub line: Range,
+    ghost clears: { Clears (sound_rows sizes (record { places = places.now; runs = runs.now; low = line.low; high = line.high })) },
 }
 
 // The 16 bits of two bytes.

@@ -1,8 +1,7 @@
 -- `conclude` puts the confirmation together.
-use Rattle.std.proofs.Common.{ℕ, ◌≡◌, ◌-◌, ◌≤◌, min, refl, sym, ap, subst, length, arith}
+use Rattle.std.proofs.Common.{ℕ, ◌≡◌, ◌-◌, ◌≤◌, min, refl, sym, ap, ◌∙◌, subst, length, arith}
 use Rattle.answer.specs.declared.Range.{Range}
 use Rattle.confirm.specs.Concluded.{concluded, pieces_few, fed_few}
-use Rattle.confirm.specs.Judged.{Settles}
 use Rattle.confirm.specs.Judging.{fields_fit, labels_below}
 use Rattle.layout.specs.Layout.{sizes, runs_in, Fields}
 use Rattle.pieces.specs.Holds.{at, fits_ended}
@@ -12,7 +11,7 @@ use Rattle.wirings.specs.Confirmed.{Confirmed}
 use Rattle.wirings.specs.Labels.{label}
 use Rattle.wirings.specs.Limits.{fixed_runs, unstruck_runs, least, most}
 use Rattle.wirings.specs.OfForm.{order_of}
-use Rattle.confirm.proofs.Came.{fields}
+use Rattle.layout.specs.Sound.{fields}
 use Rattle.confirm.proofs.conclude.Goals as goal
 use Rattle.confirm.proofs.conclude.Goals.{After-scan-wired}
 
@@ -25,62 +24,62 @@ most_small f k e small = omega (arith, e, fed_few (length f.places) (order_of f)
 
 pub kinds-kinds-requires : goal.kinds-kinds-requires
 kinds-kinds-requires c =
-    let f = fields c.args.places.now c.args.runs.now c.args.line in let fit = fields_fit f c.requires.clears in
-    fit
+    let f = fields c.args.form in let fit = fields_fit f c.args.form.clears in
+    rw c.count-m.ensures fit
 
 pub marks-marks-requires : goal.marks-marks-requires
 marks-marks-requires c =
-    let f = fields c.args.places.now c.args.runs.now c.args.line in let fit = fields_fit f c.requires.clears in
-    record { few = fit.few; ended = fits_ended fit; labelled = labels_below f _ _ c.requires.judges.labelled }
+    let f = fields c.args.form in let fit = fields_fit f c.args.form.clears in
+    record { few = fit.few; ended = fits_ended fit; labelled = labels_below f _ _ c.requires.judges.found.labelled }
 
 pub overflow_cast-least : goal.overflow_cast-least
 overflow_cast-least c =
-    let f = fields c.args.places.now c.args.runs.now c.args.line in let fit = fields_fit f c.requires.clears in
-    omega (arith, least_small f c.args.judged.least c.requires.judges.lowest fit.small)
+    let f = fields c.args.form in let fit = fields_fit f c.args.form.clears in
+    omega (arith, least_small f c.args.judged.least c.requires.judges.found.lowest fit.small)
 
 pub overflow_cast-most : goal.overflow_cast-most
 overflow_cast-most c =
-    let f = fields c.args.places.now c.args.runs.now c.args.line in let fit = fields_fit f c.requires.clears in
-    omega (arith, most_small f c.args.judged.most c.requires.judges.highest fit.small)
+    let f = fields c.args.form in let fit = fields_fit f c.args.form.clears in
+    omega (arith, most_small f c.args.judged.most c.requires.judges.found.highest fit.small)
 
 pub overflow_sub-most : goal.overflow_sub-most
 overflow_sub-most c = omega (arith, ap (λ (r : Range). r.high) c.narrowed-narrowed.ensures)
 
 pub scan-wired-requires : goal.scan-wired-requires
 scan-wired-requires c =
-    let f = fields c.args.places.now c.args.runs.now c.args.line in let fit = fields_fit f c.requires.clears in
-    fit
+    let f = fields c.args.form in let fit = fields_fit f c.args.form.clears in
+    rw c.count-m.ensures fit
 
 pub count-requires : goal.count-requires
 count-requires c =
-    let f = fields c.args.places.now c.args.runs.now c.args.line in let fit = fields_fit f c.requires.clears in
-    fit.few
+    let f = fields c.args.form in let fit = fields_fit f c.args.form.clears in
+    rw c.count-m.ensures fit.few
 
 pub count-requires-2 : goal.count-requires-2
 count-requires-2 c =
-    let f = fields c.args.places.now c.args.runs.now c.args.line in let fit = fields_fit f c.requires.clears in
-    fit.few
+    let f = fields c.args.form in let fit = fields_fit f c.args.form.clears in
+    rw c.count-m.ensures fit.few
 
 -- the scan had as many joins to spare as MAX is above the confirmed high
 scanned : (c : After-scan-wired)
-    → Scans c.args.places.now c.args.runs.now c.args.states (runs_in sizes c.args.runs.now)
-    (c.args.judged.most - min c.args.line.high c.args.judged.most) c.scan-wired.result.used c.scan-wired.result.labels
+    → Scans c.args.form.places.now c.args.form.runs.now c.args.states (runs_in sizes c.args.form.runs.now)
+    (c.args.judged.most - min c.args.form.line.high c.args.judged.most) c.scan-wired.result.used c.scan-wired.result.labels
 scanned c =
-    subst
-    (λ (r : Range). Scans c.args.places.now c.args.runs.now c.args.states (runs_in sizes c.args.runs.now) (c.args.judged.most - r.high) c.scan-wired.result.used c.scan-wired.result.labels)
-    c.narrowed-narrowed.ensures c.scan-wired.ensures
+    let counted = rw c.count-m.ensures at c.scan-wired.ensures in
+    subst (λ (x : ℕ). Scans c.args.form.places.now c.args.form.runs.now c.args.states (runs_in sizes c.args.form.runs.now) (c.args.judged.most - x) c.scan-wired.result.used c.scan-wired.result.labels)
+    (c.from.ensures ∙ ap (λ (r : Range). r.high) c.narrowed-narrowed.ensures) counted
 
 pub returns : goal.returns
 returns c =
-    let f = fields c.args.places.now c.args.runs.now c.args.line in
+    let f = fields c.args.form in
     let j = c.requires.judges in let e = (goal.at.returns c).After-scan-wired in
     record {
-      settles = subst (Settles (order_of f)) c.requires.sound j.settles;
-      confirmed = λ _.
+      settles = j.settles;
+      confirmed =
           subst (λ (r : Range). Confirmed (order_of f) (at c.marks-marks.result) r.low r.high (flagged c.scan-wired.result.used) (at c.scan-wired.result.labels) c.count.result c.count-2.result)
           (sym c.narrowed-narrowed.ensures)
-          (concluded f c.requires.clears c.args.states c.requires.states_of c.args.judged.labels c.args.judged.fed c.args.judged.least c.args.judged.most j c.requires.sound
+          (concluded f c.args.form.clears c.args.states c.requires.states_of c.args.judged j
           c.kinds-kinds.result c.marks-marks.result c.scan-wired.result.used c.scan-wired.result.labels c.count.result c.count-2.result
-          c.kinds-kinds.ensures c.marks-marks.ensures (scanned e) c.count.ensures c.count-2.ensures);
-      bits = λ _. (scanned e (order_of f) (record { n = refl; supply = refl; u = refl; v = refl }) refl (λ r l. sym (c.requires.states_of.says r l))).bits;
+          (rw c.count-m.ensures at c.kinds-kinds.ensures) c.marks-marks.ensures (scanned e) (rw c.count-m.ensures at c.count.ensures) (rw c.count-m.ensures at c.count-2.ensures));
+      bits = (scanned e (order_of f) (record { n = refl; supply = refl; u = refl; v = refl }) refl (λ r l. sym (c.requires.states_of.says r l))).bits;
     }

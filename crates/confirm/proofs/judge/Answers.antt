@@ -1,21 +1,29 @@
 -- `judge` settles numbers 9 to 11 by what the piece finder found by the fixed runs and by the unstruck ones.
-use Rattle.std.proofs.Common.{ℕ, ◌≤◌, List, ◌≡◌, refl, sym, ◌∙◌, length, take, length-take-le, arith}
-use Rattle.answer.specs.Table.{First}
+use Rattle.std.proofs.Common.{ℕ, ◌≤◌, ◌<◌, List, ◌≡◌, refl, sym, subst, ◌∙◌, length, take, length-take-le, arith}
+use Rattle.answer.specs.Table.{Finds}
+use Rattle.std.specs.Prelude.{Option, Some, None, IfSome, Result}
+use Rattle.answer.specs.declared.Refusal.{Refusal}
+use Rattle.answer.specs.Laws.{handed_on}
+use Rattle.confirm.specs.Judged.{Settles}
 use Rattle.confirm.specs.Judging.{fields_fit, fixed_labels, unstruck_labels, closing_first, supplied_as, counted_as, fed_as, labels_below, bare_first}
 use Rattle.layout.specs.Layout.{sizes, runs_in}
-use Rattle.pieces.specs.Holds.{Holds, fits_ended}
+use Rattle.pieces.specs.Holds.{Holds, Fits, fits_ended}
 use Rattle.pieces.specs.Laws.{holds_same}
 use Rattle.wirings.specs.Labels.{label}
 use Rattle.wirings.specs.Limits.{fixed_runs, unstruck_runs}
 use Rattle.wirings.specs.OfForm.{order_of}
 use Rattle.wirings.specs.Theorem1.{Opens}
-use Rattle.confirm.proofs.Came.{fields}
+use Rattle.layout.specs.Sound.{fields}
 use Rattle.confirm.proofs.judge.Goals as goal
-use Rattle.confirm.proofs.judge.Goals.{After-find-by_unstruck}
+use Rattle.confirm.proofs.judge.Goals.{After-find-by_unstruck, After-verdict}
+
+-- the runs are as many as were counted
+counted : {places runs : List ℕ} {m k : ℕ} → Fits places runs k → m ≡ k → Fits places runs m
+counted {places} {runs} fit e = subst (Fits places runs) (sym e) fit
 
 pub fixed-fixed-requires : goal.fixed-fixed-requires
 fixed-fixed-requires c =
-    let f = fields c.args.places.now c.args.runs.now c.args.line in let fit = fields_fit f c.requires.clears in
+    let f = fields c.args.form in let fit = counted (fields_fit f c.args.form.clears) c.count-m.ensures in
     fit.few
 
 -- a flag or a state for each run is lent
@@ -24,91 +32,121 @@ lent m flags few long = length-take-le m flags (omega arith)
 
 pub slice_bounds-fixed-end : goal.slice_bounds-fixed-end
 slice_bounds-fixed-end c =
-    let f = fields c.args.places.now c.args.runs.now c.args.line in let fit = fields_fit f c.requires.clears in
+    let f = fields c.args.form in let fit = counted (fields_fit f c.args.form.clears) c.count-m.ensures in
     omega (arith, fit.few, c.fixed-fixed.type_inv)
 
 pub slice_bounds-find-end : goal.slice_bounds-find-end
 slice_bounds-find-end c =
-    let f = fields c.args.places.now c.args.runs.now c.args.line in let fit = fields_fit f c.requires.clears in
-    sym (lent (runs_in sizes c.args.runs.now) c.fixed-fixed.result fit.few (omega (arith, c.fixed-fixed.type_inv)))
+    let f = fields c.args.form in let fit = counted (fields_fit f c.args.form.clears) c.count-m.ensures in
+    sym (lent c.count-m.result c.fixed-fixed.result fit.few (omega (arith, c.fixed-fixed.type_inv)))
 
 pub find-by_fixed-requires : goal.find-by_fixed-requires
 find-by_fixed-requires c =
-    let f = fields c.args.places.now c.args.runs.now c.args.line in let fit = fields_fit f c.requires.clears in
-    rw (lent (runs_in sizes c.args.runs.now) c.fixed-fixed.result fit.few (omega (arith, c.fixed-fixed.type_inv))) (fits_ended fit)
+    let f = fields c.args.form in let fit = counted (fields_fit f c.args.form.clears) c.count-m.ensures in
+    rw (lent c.count-m.result c.fixed-fixed.result fit.few (omega (arith, c.fixed-fixed.type_inv))) (fits_ended fit)
 
 pub slice_bounds-states-end : goal.slice_bounds-states-end
 slice_bounds-states-end c =
-    let f = fields c.args.places.now c.args.runs.now c.args.line in let fit = fields_fit f c.requires.clears in
+    let f = fields c.args.form in let fit = counted (fields_fit f c.args.form.clears) c.count-m.ensures in
     omega (arith, fit.few)
 
 pub slice_bounds-find-end-2 : goal.slice_bounds-find-end-2
 slice_bounds-find-end-2 c =
-    let f = fields c.args.places.now c.args.runs.now c.args.line in let fit = fields_fit f c.requires.clears in
-    sym (lent (runs_in sizes c.args.runs.now) c.args.states fit.few (omega arith))
+    let f = fields c.args.form in let fit = counted (fields_fit f c.args.form.clears) c.count-m.ensures in
+    sym (lent c.count-m.result c.args.states fit.few (omega arith))
 
 pub find-by_unstruck-requires : goal.find-by_unstruck-requires
 find-by_unstruck-requires c =
-    let f = fields c.args.places.now c.args.runs.now c.args.line in let fit = fields_fit f c.requires.clears in
-    rw (lent (runs_in sizes c.args.runs.now) c.args.states fit.few (omega arith)) (fits_ended fit)
+    let f = fields c.args.form in let fit = counted (fields_fit f c.args.form.clears) c.count-m.ensures in
+    rw (lent c.count-m.result c.args.states fit.few (omega arith)) (fits_ended fit)
 
 -- past both findings: the labels are those by the fixed runs, and by the unstruck ones
-by_fixed : (c : After-find-by_unstruck) → Holds (label (order_of (fields c.args.places.now c.args.runs.now c.args.line)) (fixed_runs (order_of (fields c.args.places.now c.args.runs.now c.args.line)))) c.find-by_fixed.result.labels
+by_fixed : (c : After-find-by_unstruck) → Holds (label (order_of (fields c.args.form)) (fixed_runs (order_of (fields c.args.form)))) c.find-by_fixed.result.labels
 by_fixed c =
-    let f = fields c.args.places.now c.args.runs.now c.args.line in let fit = fields_fit f c.requires.clears in
-    holds_same (rw (lent (runs_in sizes c.args.runs.now) c.fixed-fixed.result fit.few (omega (arith, c.fixed-fixed.type_inv))) at c.find-by_fixed.ensures.holds) (λ x l. fixed_labels f c.args.states c.fixed-fixed.result c.requires.states_of c.fixed-fixed.ensures x)
+    let f = fields c.args.form in let fit = counted (fields_fit f c.args.form.clears) c.count-m.ensures in
+    let found = rw (lent c.count-m.result c.fixed-fixed.result fit.few (omega (arith, c.fixed-fixed.type_inv))) at c.find-by_fixed.ensures.holds in
+    holds_same (rw c.count-m.ensures at found) (λ x l. fixed_labels f c.args.states c.fixed-fixed.result c.requires (rw c.count-m.ensures at c.fixed-fixed.ensures) x)
 
-by_unstruck : (c : After-find-by_unstruck) → Holds (label (order_of (fields c.args.places.now c.args.runs.now c.args.line)) (unstruck_runs (order_of (fields c.args.places.now c.args.runs.now c.args.line)))) c.find-by_unstruck.result.labels
+by_unstruck : (c : After-find-by_unstruck) → Holds (label (order_of (fields c.args.form)) (unstruck_runs (order_of (fields c.args.form)))) c.find-by_unstruck.result.labels
 by_unstruck c =
-    let f = fields c.args.places.now c.args.runs.now c.args.line in let fit = fields_fit f c.requires.clears in
-    holds_same (rw (lent (runs_in sizes c.args.runs.now) c.args.states fit.few (omega arith)) at c.find-by_unstruck.ensures.holds) (λ x l. unstruck_labels f c.args.states c.args.states c.requires.states_of x)
+    let f = fields c.args.form in let fit = counted (fields_fit f c.args.form.clears) c.count-m.ensures in
+    let found = rw (lent c.count-m.result c.args.states fit.few (omega arith)) at c.find-by_unstruck.ensures.holds in
+    holds_same (rw c.count-m.ensures at found) (λ x l. unstruck_labels f c.args.states c.args.states c.requires x)
 
-closed : (c : After-find-by_unstruck) → First (Opens (order_of (fields c.args.places.now c.args.runs.now c.args.line))) (runs_in sizes c.args.runs.now) c.find-by_fixed.result.closing
+closed : (c : After-find-by_unstruck) → Finds (Opens (order_of (fields c.args.form))) (runs_in sizes c.args.form.runs.now) c.find-by_fixed.result.closing
 closed c =
-    let f = fields c.args.places.now c.args.runs.now c.args.line in let fit = fields_fit f c.requires.clears in
-    closing_first f c.args.states c.fixed-fixed.result c.requires.states_of c.fixed-fixed.ensures (rw (lent (runs_in sizes c.args.runs.now) c.fixed-fixed.result fit.few (omega (arith, c.fixed-fixed.type_inv))) at c.find-by_fixed.ensures.first)
+    let f = fields c.args.form in let fit = counted (fields_fit f c.args.form.clears) c.count-m.ensures in
+    let found = rw (lent c.count-m.result c.fixed-fixed.result fit.few (omega (arith, c.fixed-fixed.type_inv))) at c.find-by_fixed.ensures.first in
+    closing_first f c.args.states c.fixed-fixed.result c.requires (rw c.count-m.ensures at c.fixed-fixed.ensures) (rw c.count-m.ensures at found)
 
 pub supplied-fed-requires : goal.supplied-fed-requires
 supplied-fed-requires c =
-    let f = fields c.args.places.now c.args.runs.now c.args.line in let fit = fields_fit f c.requires.clears in
+    let f = fields c.args.form in let fit = counted (fields_fit f c.args.form.clears) c.count-m.ensures in
     record { small = (fit.small, labels_below f _ _ (by_fixed (goal.at.supplied-fed-requires c).After-find-by_unstruck)); bits = fit.bit }
 
 pub supplied-reached-requires : goal.supplied-reached-requires
 supplied-reached-requires c =
-    let f = fields c.args.places.now c.args.runs.now c.args.line in let fit = fields_fit f c.requires.clears in
+    let f = fields c.args.form in let fit = counted (fields_fit f c.args.form.clears) c.count-m.ensures in
     record { small = (fit.small, labels_below f _ _ (by_unstruck (goal.at.supplied-reached-requires c).After-find-by_unstruck)); bits = fit.bit }
 
 pub first_bare-bare-requires : goal.first_bare-bare-requires
 first_bare-bare-requires c =
-    let f = fields c.args.places.now c.args.runs.now c.args.line in let fit = fields_fit f c.requires.clears in
+    let f = fields c.args.form in let fit = counted (fields_fit f c.args.form.clears) c.count-m.ensures in
     (fit.small, labels_below f _ _ (by_unstruck (goal.at.first_bare-bare-requires c).After-find-by_unstruck))
 
 pub count-least-requires : goal.count-least-requires
 count-least-requires c =
-    let f = fields c.args.places.now c.args.runs.now c.args.line in let fit = fields_fit f c.requires.clears in
+    let f = fields c.args.form in let fit = counted (fields_fit f c.args.form.clears) c.count-m.ensures in
     fit.small
 
 pub count_supplied-most-requires : goal.count_supplied-most-requires
 count_supplied-most-requires c =
-    let f = fields c.args.places.now c.args.runs.now c.args.line in let fit = fields_fit f c.requires.clears in
+    let f = fields c.args.form in let fit = counted (fields_fit f c.args.form.clears) c.count-m.ensures in
     record { small = fit.small; supplied = c.supplied-fed.ensures }
 
-pub verdict-verdict-requires : goal.verdict-verdict-requires
-verdict-verdict-requires c =
-    let f = fields c.args.places.now c.args.runs.now c.args.line in let fit = fields_fit f c.requires.clears in
-    (fit.few, fit.small)
+-- what a search found is below any bound on how many there are
+below : {n k : ℕ} (r : Option ℕ) → IfSome r (λ i. i < n) → n ≤ k → IfSome r (λ i. i < k)
+below None h l = tt
+below (Some i) h l = omega arith
+
+pub verdict-requires : goal.verdict-requires
+verdict-requires c =
+    let f = fields c.args.form in let fit = counted (fields_fit f c.args.form.clears) c.count-m.ensures in
+    let many = lent c.count-m.result c.fixed-fixed.result fit.few (omega (arith, c.fixed-fixed.type_inv)) in
+    (below _ c.find-by_fixed.ensures.first.inside (omega (arith, many, fit.few)), below _ c.first_bare-bare.ensures.inside fit.small)
+
+-- the verdict that was given settles 9 to 11
+settles : (c : After-verdict)
+    → Holds (label (order_of (fields c.args.form)) (fixed_runs (order_of (fields c.args.form)))) c.find-by_fixed.result.labels
+    → Holds (label (order_of (fields c.args.form)) (unstruck_runs (order_of (fields c.args.form)))) c.find-by_unstruck.result.labels
+    → Finds (Opens (order_of (fields c.args.form))) (runs_in sizes c.args.form.runs.now) c.find-by_fixed.result.closing
+    → Settles (order_of (fields c.args.form)) c.verdict.result
+settles c fixed unstruck closing =
+    let f = fields c.args.form in
+    c.verdict.ensures (order_of f) refl refl
+    (sym (c.count-least.ensures ∙ counted_as f c.args.form.clears _ _ c.supplied-reached.result unstruck c.supplied-reached.ensures))
+    (sym (c.count_supplied-most.ensures ∙ fed_as f c.args.form.clears _ _ c.supplied-fed.result fixed c.supplied-fed.ensures))
+    closing (bare_first f c.args.form.clears _ c.supplied-reached.result unstruck c.supplied-reached.ensures c.first_bare-bare.ensures)
+
+pub returns-in_err-verdict : goal.returns-in_err-verdict
+returns-in_err-verdict c =
+    let f = fields c.args.form in
+    let at = goal.at.returns-in_err-verdict c in let d = at.After-find-by_unstruck in
+    rw (handed_on c.from_residual.result c.from_residual.ensures.1) (record {
+      settles = subst (λ (r : Result (Unit {0}) Refusal). Settles (order_of f) r) c.in_err-verdict.was (settles at.After-verdict (by_fixed d) (by_unstruck d) (closed d));
+      found = tt;
+    })
 
 pub returns : goal.returns
 returns c =
-    let f = fields c.args.places.now c.args.runs.now c.args.line in
-    let o = order_of f in let d = (goal.at.returns c).After-find-by_unstruck in
+    let f = fields c.args.form in
+    let at = goal.at.returns c in let d = at.After-find-by_unstruck in
     record {
-      settles = c.verdict-verdict.ensures o refl refl refl refl
-          (sym (c.count-least.ensures ∙ counted_as f c.requires.clears _ _ c.supplied-reached.result (by_unstruck d) c.supplied-reached.ensures))
-          (sym (c.count_supplied-most.ensures ∙ fed_as f c.requires.clears _ _ c.supplied-fed.result (by_fixed d) c.supplied-fed.ensures))
-          (closed d) (bare_first f c.requires.clears _ c.supplied-reached.result (by_unstruck d) c.supplied-reached.ensures c.first_bare-bare.ensures);
-      labelled = by_fixed d;
-      supplied = supplied_as f c.requires.clears _ _ c.supplied-fed.result (by_fixed d) c.supplied-fed.ensures;
-      lowest = c.count-least.ensures ∙ counted_as f c.requires.clears _ _ c.supplied-reached.result (by_unstruck d) c.supplied-reached.ensures;
-      highest = c.count_supplied-most.ensures ∙ fed_as f c.requires.clears _ _ c.supplied-fed.result (by_fixed d) c.supplied-fed.ensures;
+      settles = subst (λ (r : Result (Unit {0}) Refusal). Settles (order_of f) r) c.in_ok-verdict.was (settles at.After-verdict (by_fixed d) (by_unstruck d) (closed d));
+      found = record {
+        labelled = by_fixed d;
+        supplied = supplied_as f c.args.form.clears _ _ c.supplied-fed.result (by_fixed d) c.supplied-fed.ensures;
+        lowest = c.count-least.ensures ∙ counted_as f c.args.form.clears _ _ c.supplied-reached.result (by_unstruck d) c.supplied-reached.ensures;
+        highest = c.count_supplied-most.ensures ∙ fed_as f c.args.form.clears _ _ c.supplied-fed.result (by_fixed d) c.supplied-fed.ensures;
+      };
     }

@@ -6,7 +6,7 @@ pub loop-r-init : goal.loop-r-init
 loop-r-init c = (omega arith, refl, states_none _ 1024)
 
 pub loop-r-preserved : goal.loop-r-preserved
-loop-r-preserved c = (omega arith, simp length-set c.loop-r.invariant.1, states_more c.loop-r.invariant.2 (omega arith) c.run_at-run.ensures.mark)
+loop-r-preserved c = (omega arith, simp length-set c.loop-r.invariant.1, states_more c.loop-r.invariant.2 (omega arith) c.run_at.ensures.mark)
 
 pub returns : goal.returns
 returns c = states_end c.loop-r.invariant.2 (omega arith)
