@@ -37,14 +37,14 @@ module _ (s : List ℕ) (lent : Lent) {r : Result Form Refusal} {f : Form} (p : 
   no_room h = onward p (λ number k g. absurd (not_refused (sym (ap read_as e) ∙ g))) (λ _. refuses h)
 
   -- ---- 9 to 11
-  pub no_wiring : Room (fields_of sizes s) lent → {e : Refusal} → Settles {A = Confirmation} (order_of (fields_of sizes s)) (Err e) → Leaves s lent (turned lent (told (Err e)))
-  no_wiring room c =
+  pub no_wiring : Room (fields_of sizes s) lent → (f : Refusal) → Settles {A = Confirmation} (order_of (fields_of sizes s)) (Err f) → Leaves s lent (turned lent (told (Err f)))
+  no_wiring room f c =
       onward p (λ number k g. absurd (not_refused (sym (ap read_as e) ∙ g)))
       (λ _. passes room (onward c (λ number k g. ap (turned lent) (as_refused g)) (λ a. absurd (not_refused (sym a)))))
 
   -- ---- accepted
-  pub accepts : Room (fields_of sizes s) lent → {c : Confirmation} {left : Left} → Settles (order_of (fields_of sizes s)) (Ok c) → Accepted (fields_of sizes s) lent left → Leaves s lent left
-  accepts room c a =
+  pub accepts : Room (fields_of sizes s) lent → (c : Confirmation) {left : Left} → Settles (order_of (fields_of sizes s)) (Ok c) → Accepted (fields_of sizes s) lent left → Leaves s lent left
+  accepts room confirmed c a =
       onward p (λ number k g. absurd (not_refused (sym (ap read_as e) ∙ g)))
       (λ _. passes room (onward c (λ number k g. absurd (not_refused g)) (λ _. ends a)))
 

@@ -49,7 +49,11 @@ fn room(n: usize, m: usize, form: usize, wiring: usize, segments: usize) -> bool
 pub fn filter(image: &[u8], form: &mut [u8], wiring: &mut [u8], segments: &mut [u16]) -> Answer
     ensures { Filters image.now form.old wiring.old segments.old result form.new wiring.new segments.new }
 {
-    let Form { places: n, runs: m, line } = reader::read(image)?;
+    let Form {
+        places: n,
+        runs: m,
+        line,
+    } = reader::read(image)?;
     if !room(n, m, form.len(), wiring.len(), segments.len()) {
         return Err(Refusal::NoRoom);
     }

@@ -14,11 +14,11 @@ pub loop-r-preserved : goal.loop-r-preserved
 loop-r-preserved c = (
   omega arith,
   simp length-set c.loop-r.invariant.1,
-  ap (λ (l : List ℕ). set l (5 * c.loop-r.r + 4) (at c.args.marks c.loop-r.r)) c.loop-r.invariant.2 ∙ sym (restated_more _ c.loop-r.r _),
+  ap (λ (l : List ℕ). set l (5 * c.loop-r.r + 4) (at c.args.marks.now c.loop-r.r)) c.loop-r.invariant.2 ∙ sym (restated_more _ c.loop-r.r _),
 )
 
 pub shape_of-runs : goal.shape_of-runs
 shape_of-runs c = c.loop-r.invariant.1
 
 pub returns : goal.returns
-returns c = let e : c.loop-r.r ≡ c.args.m = omega arith in c.loop-r.invariant.2 ∙ ap (λ (k : ℕ). restated (at c.args.marks) k c.args.runs.now) e
+returns c = let e : c.loop-r.r ≡ c.args.m = omega arith in c.loop-r.invariant.2 ∙ ap (λ (k : ℕ). restated (at c.args.marks.now) k c.args.runs.now) e

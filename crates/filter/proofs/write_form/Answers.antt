@@ -16,8 +16,8 @@ pub put-requires : goal.put-requires
 put-requires c = omega (arith, front c.args.image.now (line_at sizes c.args.n c.args.m) (omega (arith, c.requires.form.valid.total)), c.requires.form.valid.total)
 
 pub returns : goal.returns
-returns c = let b = c.put.new.form in let r = runs_at sizes c.args.n in let l = line_at sizes c.args.n c.args.m in
-    confirmed_written (λ i. omega (arith, c.type_inv.image i)) c.requires.form.valid (at c.args.marks) c.args.line.low c.args.line.high c.args.form.now _ _ _
+returns c = let b = c.put.new.buffer in let r = runs_at sizes c.args.n in let l = line_at sizes c.args.n c.args.m in
+    confirmed_written (λ i. omega (arith, c.type_inv.image i)) c.requires.form.valid (at c.args.marks.now) c.args.line.low c.args.line.high c.args.form.now _ _ _
     c.put.ensures
     (ap (λ (x : List ℕ). take r b ++ (x ++ drop (l - r) (drop r b))) c.restate.ensures)
-    (c.put-2.ensures ∙ ap (λ (x : List ℕ). over_at l x (take r b ++ (c.restate.new.runs ++ drop (l - r) (drop r b)))) c.line_four-four.ensures)
+    (c.put-2.ensures ∙ ap (λ (x : List ℕ). over_at l x (take r b ++ (c.restate.new.runs ++ drop (l - r) (drop r b)))) c.line_four.ensures)
