@@ -1,9 +1,8 @@
--- Laws of what the piece finder's loops have done so far, and of what its counts and its calls for each index give.
+-- Laws of what the piece finder's loops have done so far, and of what its counts give.
 use denote.Param.Members.{Mut}
 use denote.Ref.{Bor}
-use Rattle.std.specs.Prelude.{ℕ, zero, suc, min, ◌+◌, ◌≤◌, ◌<◌, eqb, Bool, true, false, cond, List, ◌≡◌, length, get_or, set, replicate, map, Option, Some, None}
-use Rattle.std.specs.Array.{IsFromFnResult, IsFromFnResultFrom}
-use Rattle.std.specs.Fn.{Called, CalledAt}
+use Rattle.std.specs.Prelude.{ℕ, zero, suc, min, ◌+◌, ◌≤◌, ◌<◌, eqb, Bool, true, false, cond, List, ◌≡◌, length, get_or, set, replicate, Option, Some, None}
+use Rattle.std.specs.Fn.{CalledAt}
 use Rattle.std.specs.Iterator.{Drains}
 use Rattle.std.specs.declared.iter.Filter.{Filter}
 use Rattle.std.specs.Iterator.Adapters.{filter_steps, filter_source, filter_callee}
@@ -18,7 +17,6 @@ use Rattle.std.proofs.Math.Decide.{ℕ_discrete, dec_lt}
 use Rattle.std.proofs.iter.Yields.{nat_range_steps}
 use Rattle.std.proofs.lemmas.Iterator.{YieldsList-from_range}
 use Rattle.std.proofs.lemmas.Iterator.Consumers.{YieldsList-at, YieldsList-from_filter, count_from_yields_List}
-use Rattle.std.proofs.lemmas.List.{length-map, get_or-map}
 use Rattle.std.proofs.lemmas.List.FromFn.{sum_by-map-range_with_len_more}
 use Rattle.std.proofs.lemmas.List.Sums.{sum-map, length-filter}
 use Rattle.answer.specs.Laws.{going_more, found_none}
@@ -34,24 +32,7 @@ use Rattle.pieces.specs.Holds.{at, Holds, Ended, labels_of, Opens}
 pub zeros : (k x : ℕ) → at (replicate k 0) x ≡ 0
 zeros k x = elim (dec_lt x k) [ yes l ↦ get_or-replicate {A = ℕ} k x 0 0 l | no l ↦ get_or-eq_default (replicate k 0) 0 {n = x} (omega (arith, length-replicate {A = ℕ} k 0)) ]
 
--- ---- an array made by a call for each index: what h says, where each call gives that and leaves the closure as it was
-module _ {F : Type 0} (g : Mut F (ℕ × Unit {0}) ℕ) (h : ℕ → ℕ) (f : F) (array : List ℕ) where
-  made_from : (i n : ℕ) → ((x y : ℕ) (q : F) → x < i + n → Called g f (x, tt) y q → (y ≡ h x) × (q ≡ f)) → IsFromFnResultFrom g f array i n
-      → (x : ℕ) → i ≤ x → x < i + n → at array x ≡ h x
-  made_from i zero calls r x a b = absurd (omega arith)
-  made_from i (suc n) calls (q, y, e, c, r) x a b = let k = calls i y q (omega arith) c in elim (ℕ_discrete x i) [
-    | yes p ↦ ap (at array) p ∙ e.1 0 ∙ k.0 ∙ ap h (sym p)
-    | no p ↦ made_from (i + 1) n (λ z w j l. calls z w j (omega arith)) (rw k.1 at r) x (omega arith) (omega arith)
-  ]
-
-  pub made : (n : ℕ) → ((x y : ℕ) (q : F) → x < n → Called g f (x, tt) y q → (y ≡ h x) × (q ≡ f)) → IsFromFnResult g f array n → (x : ℕ) → x < n → at array x ≡ h x
-  made n calls r x l = made_from 0 n (λ z w j k. calls z w j (omega arith)) r.each x (omega arith) (omega arith)
-
--- ---- arrays that hold a function
--- every element was replaced by what f says of it
-pub holds_map : (f : ℕ → ℕ) (xs : List ℕ) {ys : List ℕ} → length xs ≡ 256 → ys ≡ map f xs → Holds (λ x. f (at xs x)) ys
-holds_map f xs e h = rw h (record { size = length-map xs f ∙ e; says = λ x l. get_or-map f xs x 0 0 (omega arith) })
-
+-- an array holds what is the same as what it holds
 pub holds_same : {f g : ℕ → ℕ} {array : List ℕ} → Holds f array → ((x : ℕ) → x < 256 → f x ≡ g x) → Holds g array
 holds_same h e = record { size = h.size; says = λ x l. h.says x l ∙ e x l }
 

@@ -1,7 +1,8 @@
 -- Laws of what the scan's loops have done so far.
-use Rattle.std.specs.Prelude.{ℕ, min, max, ◌+◌, ◌-◌, ◌≤◌, ◌<◌, List, [], ◌∷◌, ◌≡◌, refl, eqb, length, get_or, take, set, replicate}
+use Rattle.std.specs.Prelude.{ℕ, min, ◌+◌, ◌-◌, ◌≤◌, ◌<◌, List, [], ◌∷◌, ◌≡◌, refl, eqb, length, get_or, take, set, replicate}
 use Rattle.std.proofs.Math.Logic.{inl, inr}
-use Rattle.std.proofs.Common.{⊎_elim, sym, ap, subst, subst₂, ◌∙◌, eq-eqb, ne_eqb, lt-ltb, le-ltb, ltb-true, get_or-set_same, get_or-take, length-take-le, add-one, arith}
+use Rattle.std.proofs.Common.{⊎_elim, sym, ap, subst, subst₂, ◌∙◌, eq-eqb, ne_eqb, lt-ltb, le-ltb, ltb-true, get_or-take, length-take-le, add-one, arith}
+use Rattle.std.proofs.lemmas.Grind.{common_steps, get_or-set_at}
 use Rattle.std.proofs.Math.ListN.{length-set}
 use Rattle.std.proofs.Math.Seq.{get_or-set_other}
 use Rattle.std.proofs.Math.Decide.{ℕ_discrete, dec_lt}
@@ -19,15 +20,7 @@ use Rattle.wirings.specs.Scan.{Scan, Verdict, closed, full, free, spends, Goes, 
 use Rattle.wirings.specs.Wiring.{Order}
 use Rattle.scan.specs.Scans.{Scanned, Flags, Gets, Merges}
 
--- ---- flags of fixed runs
--- one more flag
-module _ (flags : List ℕ) (r : ℕ) (l : r < length flags) where
-  raised_here : (j : ℕ) → j ≡ r → get_or (set flags r 1) j 0 ≡ 1
-  raised_here j p = ap (at (set flags r 1)) p ∙ get_or-set_same flags r 1 0 l
-
-  raised_bits : ((j : ℕ) → get_or flags j 0 ≤ 1) → (j : ℕ) → get_or (set flags r 1) j 0 ≤ 1
-  raised_bits h j = elim (ℕ_discrete j r) [ yes p ↦ omega (arith, raised_here j p) | no p ↦ omega (arith, get_or-set_other flags r j 1 0 p, h j) ]
-
+-- before any run no flag is set
 pub flags_none : {states : List ℕ} → Flags states 0 (replicate 1024 0)
 flags_none =
     record {
@@ -35,58 +28,6 @@ flags_none =
       only = λ r l. absurd (omega (arith, zeros 1024 r));
       all = λ r l. absurd (omega arith);
     }
-
-module _ {states flags : List ℕ} {r : ℕ} (h : Flags states r flags) where
-  pub flags_pass : (get_or states r 0 ≡ 2 → ⊥) → Flags states (r + 1) flags
-  flags_pass n =
-      record {
-        bits = h.bits;
-        only = λ j l. let q = h.only j l in (omega (arith, q.0), q.1);
-        all = λ j l e. elim (ℕ_discrete j r) [ yes p ↦ absurd (n (ap (at states) (sym p) ∙ e)) | no p ↦ h.all j (omega arith) e ];
-      }
-
-  pub flags_fixed : r < length flags → get_or states r 0 ≡ 2 → Flags states (r + 1) (set flags r 1)
-  flags_fixed l e =
-      record {
-        bits = raised_bits flags r l h.bits;
-        only = λ j k. elim (ℕ_discrete j r) [
-          | yes p ↦ (omega arith, ap (at states) p ∙ e)
-          | no p ↦ let q = h.only j (omega (arith, get_or-set_other flags r j 1 0 p)) in (omega (arith, q.0), q.1)
-        ];
-        all = λ j k f. elim (ℕ_discrete j r) [
-          | yes p ↦ omega (arith, raised_here flags r l j p)
-          | no p ↦ omega (arith, get_or-set_other flags r j 1 0 p, h.all j (omega arith) f)
-        ];
-      }
-
--- ---- bytes that say which labels have any, after two labels are joined
-module _ (a b : ℕ) (la : a < 256) (lb : b < 256) (ab : a ≡ b → ⊥) where
-  less : min a b < max a b
-  less = elim (dec_lt a b) [ yes l ↦ omega arith | no l ↦ elim (dec_lt b a) [ yes k ↦ omega arith | no k ↦ absurd (ab (omega arith)) ] ]
-
-  emptied : {f g : ℕ → ℕ} (mid : List ℕ) → Gets a b f g → length mid ≡ 256 → at mid (min a b) ≡ min 1 (f (min a b) + f (max a b))
-      → ((x : ℕ) → x < 256 → (x ≡ min a b → ⊥) → at mid x ≡ min 1 (f x)) → Holds (λ x. min 1 (g x)) (set mid (max a b) 0)
-  emptied {f} {g} mid h size low other =
-      record {
-        size = length-set mid (max a b) 0 ∙ size;
-        says = λ x l. elim (ℕ_discrete x (max a b)) [
-          | yes p ↦ omega (arith, ap (at (set mid (max a b) 0)) p, ap g p, get_or-set_same mid (max a b) 0 0 (omega arith), h.high)
-          | no p ↦ get_or-set_other mid (max a b) x 0 0 p ∙ elim (ℕ_discrete x (min a b)) [
-            | yes q ↦ omega (arith, ap (at mid) q, ap g q, low, h.low)
-            | no q ↦ omega (arith, other x l q, h.other x q p)
-          ]
-        ];
-      }
-
-  pub merges_fed : (fed : List ℕ) → at fed (max a b) ≡ 1 → Merges fed a b (set (set fed (min a b) 1) (max a b) 0)
-  merges_fed fed e f g h k =
-      emptied (set fed (min a b) 1) h (length-set fed (min a b) 1 ∙ k.size)
-      (omega (arith, get_or-set_same fed (min a b) 1 0 (omega (arith, k.size)), k.says (max a b) (omega arith)))
-      (λ x l q. get_or-set_other fed (min a b) x 1 0 q ∙ k.says x l)
-
-  pub merges_not : (fed : List ℕ) → (at fed (max a b) ≡ 1 → ⊥) → Merges fed a b (set fed (max a b) 0)
-  merges_not fed n f g h k =
-      emptied fed h k.size (omega (arith, n, k.says (min a b) (omega arith), k.says (max a b) (omega arith))) (λ x l q. k.says x l)
 
 -- ---- what `scan` has done after r runs
 abbrev pub start : Order → ℕ → Scan
@@ -219,8 +160,8 @@ module _ {places runs states : List ℕ} {m : ℕ} {o : Order} (of : Of places r
       pub going_pass : (get_or states r 0 ≡ 1 → ⊥) → Going o spare used labels fed left (r + 1)
       going_pass n = kept (rw add-one (pass g.goes (λ p. n (sym state ∙ p))))
 
-      -- run r is possible, and its ends are u and v
-      module _ {u v mark : ℕ} (possible : get_or states r 0 ≡ 1) (shows : Shows sizes runs r u v mark) where
+      -- run r is possible, and its ends are u and v, with labels a and b
+      module _ {u v mark a b : ℕ} (possible : get_or states r 0 ≡ 1) (shows : Shows sizes runs r u v mark) (is_a : a ≡ at labels u) (is_b : b ≡ at labels v) where
         looked : {t : Scan} → Verdict o r g.end t → Goes o (λ j. j) (start o spare) (r + 1) t
         looked w = rw add-one (look g.goes (state ∙ possible) w)
 
@@ -230,33 +171,33 @@ module _ {places runs states : List ℕ} {m : ℕ} {o : Order} (of : Of places r
         end_v_below : o.v r < o.n
         end_v_below = omega (arith, of.fits.other r l, of.drawn.n, ap (λ (f : ℕ → ℕ). f r) of.drawn.v)
 
-        at_u : at labels u ≡ label o g.end.taken (o.u r)
+        at_u : a ≡ label o g.end.taken (o.u r)
         at_u = let e : u ≡ o.u r = cc (shows.one, of.drawn.u) in
-            g.holds.says u (omega (arith, end_u_below, of.drawn.n, of.fits.small)) ∙ ap (label o g.end.taken) e
+            is_a ∙ g.holds.says u (omega (arith, end_u_below, of.drawn.n, of.fits.small)) ∙ ap (label o g.end.taken) e
 
-        at_v : at labels v ≡ label o g.end.taken (o.v r)
+        at_v : b ≡ label o g.end.taken (o.v r)
         at_v = let e : v ≡ o.v r = cc (shows.other, of.drawn.v) in
-            g.holds.says v (omega (arith, end_v_below, of.drawn.n, of.fits.small)) ∙ ap (label o g.end.taken) e
+            is_b ∙ g.holds.says v (omega (arith, end_v_below, of.drawn.n, of.fits.small)) ∙ ap (label o g.end.taken) e
 
-        pub going_closed : at labels u ≡ at labels v → Going o spare used labels fed left (r + 1)
+        pub going_closed : a ≡ b → Going o spare used labels fed left (r + 1)
         going_closed p = kept (looked (closed (sym at_u ∙ p ∙ at_v) refl))
 
         -- they are two pieces; the cost is 1 where both hold a supply
-        module _ (two : at labels u ≡ at labels v → ⊥) where
+        module _ {cost : ℕ} (two : a ≡ b → ⊥) (cost_is : cost ≡ min (at fed a) (at fed b)) where
           apart : label o g.end.taken (o.u r) ≡ label o g.end.taken (o.v r) → ⊥
           apart p = two (at_u ∙ p ∙ sym at_v)
 
-          fed_u : at fed (at labels u) ≡ min 1 (stocked o g.end.taken (o.u r))
+          fed_u : at fed a ≡ min 1 (stocked o g.end.taken (o.u r))
           fed_u = ap (at fed) at_u ∙ g.feeds.says _ (omega (arith, label_le o g.end.taken (o.u r), end_u_below))
 
-          fed_v : at fed (at labels v) ≡ min 1 (stocked o g.end.taken (o.v r))
+          fed_v : at fed b ≡ min 1 (stocked o g.end.taken (o.v r))
           fed_v = ap (at fed) at_v ∙ g.feeds.says _ (omega (arith, label_le o g.end.taken (o.v r), end_v_below))
 
-          pub going_full : left < min (at fed (at labels u)) (at fed (at labels v)) → Going o spare used labels fed left (r + 1)
+          pub going_full : left < cost → Going o spare used labels fed left (r + 1)
           going_full k =
               kept (looked (full apart (omega (arith, fed_u, fed_v)) (omega (arith, fed_u, fed_v)) (omega (arith, fed_u, fed_v, g.rest)) refl))
 
-          module _ {cost : ℕ} (cost_is : cost ≡ min (at fed (at labels u)) (at fed (at labels v))) (enough : cost ≤ left) where
+          module _ (enough : cost ≤ left) where
             takes : Verdict o r g.end (taking r g.end (left - cost))
             takes = elim (dec_lt 0 cost) [
               | yes k ↦ let p : left - cost ≡ g.end.spare - 1 = omega (arith, fed_u, fed_v, g.rest) in
@@ -264,7 +205,7 @@ module _ {places runs states : List ℕ} {m : ℕ} {o : Order} (of : Of places r
               | no k ↦ let p : left - cost ≡ g.end.spare = omega (arith, g.rest) in free apart (omega (arith, fed_u, fed_v)) (ap (taking r g.end) p)
             ]
 
-            gets : Gets (at labels u) (at labels v) (stocks o g.end.taken) (stocks o (r ∷ g.end.taken))
+            gets : Gets a b (stocks o g.end.taken) (stocks o (r ∷ g.end.taken))
             gets =
                 subst₂ (λ (a b : ℕ). Gets a b (stocks o g.end.taken) (stocks o (r ∷ g.end.taken))) (sym at_u) (sym at_v)
                 (label_gets o r g.end.taken end_u_below end_v_below apart)
@@ -272,7 +213,7 @@ module _ {places runs states : List ℕ} {m : ℕ} {o : Order} (of : Of places r
             room : r < length used
             room = omega (arith, g.size, of.fits.few)
 
-            pub going_take : {new merged : List ℕ} → Holds (λ x. moved (at labels u) (at labels v) (at labels x)) new → Merges fed (at labels u) (at labels v) merged
+            pub going_take : {new merged : List ℕ} → Holds (λ x. moved (at labels u) (at labels v) (at labels x)) new → Merges fed a b merged
                 → Going o spare (set used r 1) new merged (left - cost) (r + 1)
             unfolding labels
             going_take {new} {merged} h k =
@@ -280,13 +221,13 @@ module _ {places runs states : List ℕ} {m : ℕ} {o : Order} (of : Of places r
                   end = taking r g.end (left - cost);
                   goes = looked takes;
                   rest = refl;
-                  holds = holds_same h (λ x q. cc (at_u, at_v, g.holds.says x q));
+                  holds = holds_same h (λ x q. cc (is_a, is_b, at_u, at_v, g.holds.says x q));
                   feeds = k _ _ gets g.feeds;
                   size = length-set used r 1 ∙ g.size;
-                  bits = raised_bits used r room g.bits;
+                  bits = λ j. grind (arith, common_steps, g.bits j, room);
                   only = λ j q w. elim (ℕ_discrete j r) [ yes p ↦ inl p | no p ↦ inr (g.only j q (omega (arith, get_or-set_other used r j 1 0 p))) ];
                   all = λ j w. elim (ℕ_discrete j r) [
-                    | yes p ↦ omega (arith, raised_here used r room j p)
+                    | yes p ↦ omega (arith, get_or-set_at used r j 1 0 p room)
                     | no p ↦ omega (arith, get_or-set_other used r j 1 0 p, g.all j (⊎_elim (λ q. absurd (p q)) (λ q. q) w))
                   ];
                 }

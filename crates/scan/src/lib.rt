@@ -3,12 +3,14 @@
 // A function is kept out of line where its arrays are to leave the stack before others come.
 #![tactic(auto)]
 
-ghost use Rattle.std.specs.Prelude.{◌≡◌, ◌≤◌, ◌<◌, min};
+ghost use Rattle.std.specs.Prelude.{◌≡◌, ◌≤◌, ◌<◌};
 ghost use Rattle.pieces.specs.Holds.{Fits};
 ghost use Rattle.scan.specs.Scans.{Scans, Flags, Merges};
 
+use layout::Run;
+
 // A byte for each run, 1 where the wiring uses it; and each place's label by these runs.
-#[derive(Clone, Copy)]
+#[derive(Clone, Copy, Debug, PartialEq, Eq)]
 pub struct Wired {
     pub used: [u8; 1024],
     pub labels: [u16; 256],
@@ -19,21 +21,13 @@ pub fn fixed(states: [u8; 1024], m: usize) -> [u8; 1024]
     requires { m ≤ 1024 }
     ensures { Flags states m result }
 {
-    let mut flags = [0u8; 1024];
-    let mut r = 0;
-    while r < m {
+    let mut flags = [0; 1024];
+    for r in 0..m {
         if states[r] == 2 {
             flags[r] = 1;
         }
-        r += 1;
     }
     flags
-}
-
-fn smaller(a: u8, b: u8) -> u8
-    ensures { result ≡ min a b }
-{
-    if a < b { a } else { b }
 }
 
 // Which labels hold a supply after the pieces with labels a and b are joined: the smaller label has what either had.
@@ -42,44 +36,34 @@ fn merged(fed: [u8; 256], a: usize, b: usize) -> [u8; 256]
     ensures { Merges fed a b result }
 {
     let mut after = fed;
-    let low = if a < b { a } else { b };
-    let high = if a < b { b } else { a };
-    if fed[high] == 1 {
-        after[low] = 1;
-    }
-    after[high] = 0;
+    after[a.min(b)] = fed[a].max(fed[b]);
+    after[a.max(b)] = 0;
     after
 }
 
+// The runs that the scan uses with so many joins to spare, and the labels they give.
 #[inline(never)]
 pub fn scan(places: &[u8], runs: &[u8], states: [u8; 1024], m: usize, spare: usize) -> Wired
     requires { Fits places.now runs.now m }
     ensures { Scans places.now runs.now states m spare result.used result.labels }
 {
     let mut used = fixed(states, m);
-    let found = pieces::find(runs, &used[..m]);
-    let mut labels = found.labels;
+    let mut labels = pieces::find(runs, &used[..m]).labels;
     let mut fed = pieces::supplied(labels, places);
     let mut left = spare;
-    let mut r = 0;
-    while r < m {
+    for r in 0..m {
         if states[r] == 1 {
-            let run = layout::run_at(runs, r);
-            let u = run.u;
-            let v = run.v;
-            let a = labels[u] as usize;
-            let b = labels[v] as usize;
-            if a != b {
-                let cost = smaller(fed[a], fed[b]) as usize;
-                if cost <= left {
-                    left -= cost;
-                    used[r] = 1;
-                    labels = pieces::join(labels, u, v);
-                    fed = merged(fed, a, b);
-                }
+            let Run { u, v, .. } = layout::run_at(runs, r);
+            let a = usize::from(labels[u]);
+            let b = usize::from(labels[v]);
+            let cost = usize::from(fed[a].min(fed[b]));
+            if a != b && cost <= left {
+                left -= cost;
+                used[r] = 1;
+                labels = pieces::join(labels, u, v);
+                fed = merged(fed, a, b);
             }
         }
-        r += 1;
     }
     Wired { used, labels }
 }

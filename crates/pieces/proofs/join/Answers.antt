@@ -1,8 +1,7 @@
 use Rattle.std.proofs.Common.{sym, ◌∙◌, arith}
-use Rattle.std.proofs.lemmas.Grind.{common_steps, get_or_default_zero}
+use Rattle.std.proofs.lemmas.Grind.{get_or_default_zero}
 use Rattle.std.proofs.lemmas.List.Edits.{map_over_more}
 use Rattle.pieces.specs.Holds.{at}
-use Rattle.pieces.specs.Laws.{holds_map}
 use Rattle.wirings.specs.Labels.{moved, moved_is, moved_not}
 use Rattle.pieces.proofs.join.Goals as goal
 use Rattle.pieces.proofs.join.Goals.{then-label-high, else-label-high}
@@ -14,6 +13,3 @@ loop-label-preserved c = let items = c.loop-label.label-items in let i = c.loop-
       | then-label-high w ↦ rw w.label-items-is (rw (c.min-low.ensures ∙ sym (moved_is _ _ _ (w.if-label-high.true ∙ c.max-high.ensures))) more)
       | else-label-high w ↦ rw w.label-items-is (rw (moved_not _ _ _ (λ e. w.if-label-high.false (e ∙ sym c.max-high.ensures))) at more)
     ]
-
-pub returns : goal.returns
-returns c = holds_map (moved _ _) c.args.labels (omega arith) (grind (arith, common_steps))
