@@ -1,11 +1,8 @@
-use Rattle.std.proofs.Common.{◌≡◌, ℕ, ◌+◌, ◌-◌, ◌≤◌, ◌<◌, Bool, true, false, not, List, length, get_or, sym, ap, ◌∙◌, arith, rules}
+use Rattle.std.proofs.Common.{◌≡◌, ℕ, ◌+◌, ◌-◌, ◌≤◌, ◌<◌, true, false, not, List, length, get_or, sym, ◌∙◌, arith, rules}
+use Rattle.std.proofs.lemmas.Bool.{not-false, not-true, true≢false}
 use Rattle.text.specs.Laws.{one_on, word_at}
 use Rattle.text.specs.Words.{is_blank, Reaches, first}
 use Rattle.text.proofs.word.Goals as goal
-
-not_not : (b : Bool) → not (not b) ≡ b
-not_not true = search rules
-not_not false = search rules
 
 module _ {s : List ℕ} {from r : ℕ} (on : from ≤ r) (within : r ≤ length s) where
   -- the first blank from a place on
@@ -14,7 +11,7 @@ module _ {s : List ℕ} {from r : ℕ} (on : from ≤ r) (within : r ≤ length 
     on = on;
     within = within;
     before = λ j a b. let e : from + (j - from) ≡ j = omega arith in sym (rw e at (before (j - from) (omega arith)));
-    found = λ h e. let bad : true ≡ false = found h ∙ e in cc;
+    found = λ h e. true≢false (found h ∙ e);
   }
 
   -- the first byte from a place on that is no blank
@@ -22,8 +19,8 @@ module _ {s : List ℕ} {from r : ℕ} (on : from ≤ r) (within : r ≤ length 
   past_blanks before found = record {
     on = on;
     within = within;
-    before = λ j a b. let e : from + (j - from) ≡ j = omega arith in sym (rw e at (ap not (before (j - from) (omega arith)) ∙ not_not _));
-    found = λ h e. let bad : true ≡ false = found h ∙ ap not e in cc;
+    before = λ j a b. let e : from + (j - from) ≡ j = omega arith in rw e at (not-false _ (sym (before (j - from) (omega arith))));
+    found = λ h e. true≢false (sym e ∙ not-true _ (sym (found h)));
   }
 
 pub loop-init : goal.loop-init
