@@ -5,28 +5,8 @@
 ghost use Rattle.std.specs.Prelude.{◌≤◌, length};
 
 use answer::Range;
-use items::{Fault, Gathered};
 use std::io;
 use writer::Writing;
-
-// What is wrong with a word.
-fn fault_meaning(fault: Fault) -> &'static str {
-    match fault {
-        Fault::NotAnItem => "is not place, supply, run or count",
-        Fault::NoNumber => "is missing: a number",
-        Fault::NotDigits => "is not a number in decimal digits",
-        Fault::Above => "is a number above 65,535",
-        Fault::NoState => "is missing: fixed, possible or struck",
-        Fault::NotAState => "is not fixed, possible or struck",
-        Fault::OneTooMany => "is one too many",
-        Fault::SecondCount => "is a second count",
-    }
-}
-
-fn say_fault(rt: &impl Eprint, line: usize, word: u8, fault: Fault) -> io::Result<()> {
-    let meaning = fault_meaning(fault);
-    eprintln!(rt; "line {line}: word {word} {meaning}")
-}
 
 // What the writer's number means.
 fn refusal_meaning(no: u16) -> &'static str {
@@ -45,21 +25,12 @@ fn say_refused(rt: &impl Eprint, no: u16, place: u16) -> io::Result<()> {
     eprintln!(rt; "refused {no} {place}: {meaning}")
 }
 
-fn smaller(a: usize, b: usize) -> usize
-    ensures { (result ≤ a) × (result ≤ b) }
-{
-    if a < b { a } else { b }
-}
-
 // Writes the form of these fields.
 fn write(rt: &(impl Print + Eprint), places: &[u8], runs: &[u8], line: Range) -> io::Result<()> {
     let mut form = [0u8; 5400];
     match writer::write(places, runs, line, &mut form) {
         Writing::Refused { number, place } => say_refused(rt, number, place),
-        Writing::Written { length } => {
-            let end = smaller(length, 5400);
-            rt.write_all(&form[..end])
-        }
+        Writing::Written { length } => rt.write_all(&form[..length.min(5400)]),
     }
 }
 
@@ -70,13 +41,8 @@ fn form(rt: &(impl Print + Eprint), text: &[u8]) -> io::Result<()>
     let mut places = [0u8; 257];
     let mut runs = [0u8; 5125];
     match items::gather(text, &mut places, &mut runs) {
-        Gathered::Fields {
-            places: n,
-            records,
-            line,
-        } => write(rt, &places[0..n], &runs[0..records], line),
-        Gathered::Wrong { line, word, fault } => say_fault(rt, line, word, fault),
-        Gathered::NoCount { line } => eprintln!(rt; "line {line}: there is no count"),
+        Ok(fields) => write(rt, fields.places, fields.runs, fields.line),
+        Err(error) => eprintln!(rt; "{error}"),
     }
 }
 

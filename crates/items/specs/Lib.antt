@@ -1,4 +1,4 @@
-pub mod Within
 pub mod Items
-pub mod Laws
+pub mod Messages
+pub mod Within
 pub mod One

@@ -1,15 +1,11 @@
 -- Any two items that the contract of a line allows are equal.
-use Rattle.std.specs.Prelude.{ℕ, List, ◌≡◌}
+use Rattle.std.specs.Prelude.{ℕ, List, ◌≡◌, Result, Ok, Err}
 use Rattle.std.proofs.Common.{sym, subst, ◌∙◌}
 use Rattle.text.specs.One.{word_one, says_one}
 use Rattle.text.specs.Words.{Word}
-use Rattle.items.specs.declared.Field.{Field}
-use Rattle.items.specs.declared.Field.TheVariants.{Is as Value, Not as NoValue}
+use Rattle.items.specs.declared.Fault.{Fault}
 use Rattle.items.specs.declared.Item.{Item}
-use Rattle.items.specs.declared.Pair.{Pair}
-use Rattle.items.specs.declared.Pair.TheVariants.{Are, Not as NoPair}
-use Rattle.items.specs.declared.State.{State}
-use Rattle.items.specs.declared.State.TheVariants.{Is as Known, Not as NoState'}
+use Rattle.items.specs.declared.Wrong.{Wrong}
 use Rattle.items.specs.Items.{Only, If, so, otherwise, With, NumberIn, StateIn, PairWith, PairFrom, PairIn, Whole, RunWith, RunFrom, CountFrom, ItemIn, Reads}
 
 -- K allows one answer at most
@@ -37,13 +33,13 @@ number_one w = if_one (only_one _) (with_one (says_one w) (λ d. only_one _))
 state_one : (w : List ℕ) → One (StateIn w)
 state_one w = if_one (only_one _) (if_one (only_one _) (if_one (only_one _) (if_one (only_one _) (only_one _))))
 
-pair_with : (a : ℕ) (x : Field) → One (PairWith a x)
-pair_with a (Value b) = only_one _
-pair_with a (NoValue f) = only_one _
+pair_with : (a : ℕ) (x : Result ℕ Fault) → One (PairWith a x)
+pair_with a (Ok b) = only_one _
+pair_with a (Err f) = only_one _
 
-pair_from : (s : List ℕ) (x : Field) → One (PairFrom s x)
-pair_from s (Value a) = with_one (words_one s 2) (λ w. with_one (number_one w) (pair_with a))
-pair_from s (NoValue f) = only_one _
+pair_from : (s : List ℕ) (x : Result ℕ Fault) → One (PairFrom s x)
+pair_from s (Ok a) = with_one (words_one s 2) (λ w. with_one (number_one w) (pair_with a))
+pair_from s (Err f) = only_one _
 
 pair_one : (s : List ℕ) → One (PairIn s)
 pair_one s = with_one (words_one s 1) (λ w. with_one (number_one w) (pair_from s))
@@ -51,17 +47,17 @@ pair_one s = with_one (words_one s 1) (λ w. with_one (number_one w) (pair_from 
 whole_one : (s : List ℕ) (k : ℕ) (item : Item) → One (Whole s k item)
 whole_one s k item = with_one (words_one s k) (λ w. if_one (only_one _) (only_one _))
 
-run_with : (s : List ℕ) (u v : ℕ) (x : State) → One (RunWith s u v x)
-run_with s u v (Known t) = whole_one s 4 _
-run_with s u v (NoState' f) = only_one _
+run_with : (s : List ℕ) (u v : ℕ) (x : Result ℕ Fault) → One (RunWith s u v x)
+run_with s u v (Ok t) = whole_one s 4 _
+run_with s u v (Err f) = only_one _
 
-run_from : (s : List ℕ) (x : Pair) → One (RunFrom s x)
-run_from s (Are u v) = with_one (words_one s 3) (λ w. with_one (state_one w) (run_with s u v))
-run_from s (NoPair k f) = only_one _
+run_from : (s : List ℕ) (x : Result (ℕ × ℕ) Wrong) → One (RunFrom s x)
+run_from s (Ok (u, v)) = with_one (words_one s 3) (λ w. with_one (state_one w) (run_with s u v))
+run_from s (Err e) = only_one _
 
-count_from : (s : List ℕ) (x : Pair) → One (CountFrom s x)
-count_from s (Are low high) = whole_one s 3 _
-count_from s (NoPair k f) = only_one _
+count_from : (s : List ℕ) (x : Result (ℕ × ℕ) Wrong) → One (CountFrom s x)
+count_from s (Ok (low, high)) = whole_one s 3 _
+count_from s (Err e) = only_one _
 
 item_one : (s w : List ℕ) → One (ItemIn s w)
 item_one s w =

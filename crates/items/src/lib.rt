@@ -3,14 +3,17 @@
 
 mod fields;
 
-ghost use Rattle.std.specs.Prelude.{◌≤◌};
-ghost use Rattle.items.specs.Items.{NumberIn, StateIn, PairIn, Whole, RunIn, CountIn, Reads};
+ghost use Rattle.std.specs.Prelude.{◌≡◌, ◌≤◌, Some};
+ghost use Rattle.items.specs.Messages.{meaning_of, wrong_text};
+ghost use Rattle.items.specs.Items.{fault_of, NumberIn, StateIn, PairIn, Whole, RunIn, CountIn, Reads};
 
-pub use fields::{Gathered, gather};
-use text::Decimal;
+use answer::Range;
+pub use fields::{Fields, TextError, gather};
+use std::fmt;
+use text::NotANumber;
 
 // What is wrong with a word of a line.
-#[derive(Clone, Copy)]
+#[derive(Clone, Copy, Debug, PartialEq, Eq)]
 pub enum Fault {
     NotAnItem,
     NoNumber,
@@ -22,154 +25,132 @@ pub enum Fault {
     SecondCount,
 }
 
-// What one line says. A fault names its word, counted from 1.
-#[derive(Clone, Copy)]
+// A word of a line that is wrong, counted from 1, and what is wrong with it.
+#[derive(Clone, Copy, Debug, PartialEq, Eq)]
+pub struct Wrong {
+    pub word: u8,
+    pub fault: Fault,
+}
+
+// What one line says.
+#[derive(Clone, Copy, Debug, PartialEq, Eq)]
 pub enum Item {
     Nothing,
-    Place { supply: u8 },
+    Place { supply: bool },
     Run { u: u16, v: u16, state: u8 },
-    Count { low: u16, high: u16 },
-    Wrong { word: u8, fault: Fault },
+    Count(Range),
+}
+
+impl fmt::Display for Fault {
+    ghost output = { λ fault. Some (meaning_of fault) };
+
+    fn fmt<W: fmt::Write>(&self, f: &mut fmt::Formatter<W>) -> fmt::Result {
+        f.write_str(match self {
+            Fault::NotAnItem => "is not place, supply, run or count",
+            Fault::NoNumber => "is missing: a number",
+            Fault::NotDigits => "is not a number in decimal digits",
+            Fault::Above => "is a number above 65,535",
+            Fault::NoState => "is missing: fixed, possible or struck",
+            Fault::NotAState => "is not fixed, possible or struck",
+            Fault::OneTooMany => "is one too many",
+            Fault::SecondCount => "is a second count",
+        })
+    }
+}
+
+impl fmt::Display for Wrong {
+    ghost output = { λ wrong. Some (wrong_text wrong) };
+
+    fn fmt<W: fmt::Write>(&self, f: &mut fmt::Formatter<W>) -> fmt::Result {
+        write!(f, "word {} {}", self.word, self.fault)
+    }
+}
+
+impl From<NotANumber> for Fault {
+    ghost from_gives = { λ e f. f ≡ fault_of e };
+
+    fn from(error: NotANumber) -> Fault {
+        match error {
+            NotANumber::NotDigits => Fault::NotDigits,
+            NotANumber::Above => Fault::Above,
+        }
+    }
 }
 
 // What a word says that is to be a number.
-#[derive(Drop)]
-enum Field {
-    Is { value: u16 },
-    Not { fault: Fault },
+fn field_of(word: &[u8]) -> Result<u16, Fault>
+    ensures { NumberIn word.now result }
+{
+    if word.is_empty() {
+        return Err(Fault::NoNumber);
+    }
+    Ok(text::number(word)?)
 }
 
 // What a word says that is to be a run's state: its number on file.
-#[derive(Drop)]
-enum State {
-    Is { state: u8 },
-    Not { fault: Fault },
-}
-
-// What two words say that are to be numbers.
-#[derive(Drop)]
-enum Pair {
-    Are { a: u16, b: u16 },
-    Not { word: u8, fault: Fault },
-}
-
-fn field_of(word: &[u8]) -> Field
-    ensures { NumberIn word.now result }
-{
-    if word.len() == 0 {
-        return Field::Not {
-            fault: Fault::NoNumber,
-        };
-    }
-    match text::number(word) {
-        Decimal::Is { value } => Field::Is { value },
-        Decimal::Above => Field::Not {
-            fault: Fault::Above,
-        },
-        Decimal::Not => Field::Not {
-            fault: Fault::NotDigits,
-        },
-    }
-}
-
-fn state_of(word: &[u8]) -> State
+fn state_of(word: &[u8]) -> Result<u8, Fault>
     ensures { StateIn word.now result }
 {
-    if word.len() == 0 {
-        return State::Not {
-            fault: Fault::NoState,
-        };
-    }
-    if check::same(word, b"struck") {
-        return State::Is { state: 0 };
-    }
-    if check::same(word, b"possible") {
-        return State::Is { state: 1 };
-    }
-    if check::same(word, b"fixed") {
-        return State::Is { state: 2 };
-    }
-    State::Not {
-        fault: Fault::NotAState,
+    match word {
+        b"" => Err(Fault::NoState),
+        b"struck" => Ok(0),
+        b"possible" => Ok(1),
+        b"fixed" => Ok(2),
+        _ => Err(Fault::NotAState),
     }
 }
 
 // The two numbers after the first word.
-fn pair_of(line: &[u8]) -> Pair
+fn pair_of(line: &[u8]) -> Result<(u16, u16), Wrong>
     ensures { PairIn line.now result }
 {
-    let first = field_of(text::word(line, 1));
-    let second = field_of(text::word(line, 2));
-    match first {
-        Field::Not { fault } => Pair::Not { word: 2, fault },
-        Field::Is { value: a } => match second {
-            Field::Not { fault } => Pair::Not { word: 3, fault },
-            Field::Is { value: b } => Pair::Are { a, b },
-        },
-    }
+    let a = field_of(text::word(line, 1)).map_err(|fault| Wrong { word: 2, fault })?;
+    let b = field_of(text::word(line, 2)).map_err(|fault| Wrong { word: 3, fault })?;
+    Ok((a, b))
 }
 
 // The item, if the line has no more than this many words.
-fn whole(line: &[u8], words: u8, item: Item) -> Item
+fn whole(line: &[u8], words: u8, item: Item) -> Result<Item, Wrong>
     requires { words ≤ 4 }
     ensures { Whole line.now words item result }
 {
-    let more = text::word(line, words as usize);
-    if more.len() == 0 {
-        return item;
+    if text::word(line, usize::from(words)).is_empty() {
+        return Ok(item);
     }
-    Item::Wrong {
+    Err(Wrong {
         word: words + 1,
         fault: Fault::OneTooMany,
-    }
+    })
 }
 
-fn run_of(line: &[u8]) -> Item
+fn run_of(line: &[u8]) -> Result<Item, Wrong>
     ensures { RunIn line.now result }
 {
-    match pair_of(line) {
-        Pair::Not { word, fault } => Item::Wrong { word, fault },
-        Pair::Are { a: u, b: v } => match state_of(text::word(line, 3)) {
-            State::Not { fault } => Item::Wrong { word: 4, fault },
-            State::Is { state } => whole(line, 4, Item::Run { u, v, state }),
-        },
-    }
+    let (u, v) = pair_of(line)?;
+    let state = state_of(text::word(line, 3)).map_err(|fault| Wrong { word: 4, fault })?;
+    whole(line, 4, Item::Run { u, v, state })
 }
 
-fn count_of(line: &[u8]) -> Item
+fn count_of(line: &[u8]) -> Result<Item, Wrong>
     ensures { CountIn line.now result }
 {
-    match pair_of(line) {
-        Pair::Not { word, fault } => Item::Wrong { word, fault },
-        Pair::Are { a: low, b: high } => whole(line, 3, Item::Count { low, high }),
-    }
+    let (low, high) = pair_of(line)?;
+    whole(line, 3, Item::Count(Range { low, high }))
 }
 
 // What a line says: nothing where it is blank or its first word begins with #.
-pub fn read(line: &[u8]) -> Item
+pub fn read(line: &[u8]) -> Result<Item, Wrong>
     ensures { Reads line.now result }
 {
-    let first = text::word(line, 0);
-    if first.len() == 0 {
-        return Item::Nothing;
-    }
-    if first[0] == b'#' {
-        return Item::Nothing;
-    }
-    if check::same(first, b"place") {
-        return whole(line, 1, Item::Place { supply: 0 });
-    }
-    if check::same(first, b"supply") {
-        return whole(line, 1, Item::Place { supply: 1 });
-    }
-    if check::same(first, b"run") {
-        return run_of(line);
-    }
-    if check::same(first, b"count") {
-        return count_of(line);
-    }
-    Item::Wrong {
-        word: 1,
-        fault: Fault::NotAnItem,
+    match text::word(line, 0) {
+        [] | [b'#', ..] => Ok(Item::Nothing),
+        b"place" => whole(line, 1, Item::Place { supply: false }),
+        b"supply" => whole(line, 1, Item::Place { supply: true }),
+        b"run" => run_of(line),
+        b"count" => count_of(line),
+        _ => Err(Wrong {
+            word: 1,
+            fault: Fault::NotAnItem,
+        }),
     }
 }

@@ -8,7 +8,7 @@ use answer::Answer;
 use std::alloc::AllocError;
 use std::io;
 use std::io::{BufWriter, Write};
-use words::{Meaning, Request};
+use words::{Keying, Meaning, Nonsense};
 
 // How keying ends: the answer of the last step, and the number of that step where it is a refusal.
 #[derive(Drop)]
@@ -20,8 +20,8 @@ struct End {
 fn main(rt: HostRuntime) -> io::Result<()> {
     let words = words::all(&rt)?;
     match words::asked(words.as_slice()) {
-        Request::Nonsense { word } => usage(&rt, word),
-        Request::Keying { amended, file } => key(&rt, words.as_slice(), amended, file),
+        Ok(keying) => key(&rt, words.as_slice(), keying),
+        Err(Nonsense { word }) => usage(&rt, word),
     }
 }
 
@@ -31,7 +31,8 @@ fn usage(rt: &impl Print, word: usize) -> io::Result<()> {
 }
 
 // Keys the amendments to the form that is read here, and lists the end.
-fn key(rt: &HostRuntime, words: &[Vec<u8>], amended: bool, file: usize) -> io::Result<()> {
+fn key(rt: &HostRuntime, words: &[Vec<u8>], keying: Keying) -> io::Result<()> {
+    let Keying { amended, file } = keying;
     let mut image = [0u8; 5401];
     let mut form = [0u8; 5400];
     let mut wiring = [0u8; 1024];
@@ -67,12 +68,12 @@ fn key(rt: &HostRuntime, words: &[Vec<u8>], amended: bool, file: usize) -> io::R
 fn saved(
     rt: &HostRuntime,
     words: &[Vec<u8>],
-    file: usize,
+    file: Option<usize>,
     form: &[u8],
 ) -> Result<bool, AllocError> {
-    if file == 0 {
+    let Some(file) = file else {
         return Ok(true);
-    }
+    };
     match words.get(file) {
         Some(word) => words::save(rt, word.as_slice(), form),
         None => words::save(rt, b"", form),
@@ -119,11 +120,13 @@ fn steps(
     let count = words.len();
     while i < count {
         let meaning = words::said(words, i);
-        if let Meaning::Amendment {
-            kind,
-            first,
-            second,
-        } = meaning
+        if let Some(
+            Meaning::Amendment {
+                kind,
+                first,
+                second,
+            },
+        ) = meaning
         {
             answer = amend::amend(&image[..got], kind, first, second, form, wiring, segments);
             if let Answer::Refused {

@@ -1,46 +1,9 @@
 -- Going over a line and over digits, a byte at a time; and that each contract settles what comes out.
-use Rattle.std.specs.Prelude.{ℕ, ◌+◌, ◌-◌, ◌*◌, ◌≤◌, ◌<◌, min, Bool, true, false, not, List, ◌≡◌, T, length, get_or, take, drop}
-use Rattle.std.specs.Bool.{beq}
+use Rattle.std.specs.Prelude.{ℕ, ◌+◌, ◌-◌, ◌*◌, ◌≤◌, ◌<◌, min, true, false, List, ◌≡◌, length, get_or, take, drop}
 use Rattle.std.proofs.Math.Path.{refl}
-use Rattle.std.proofs.Common.{sym, subst, below_more, le_refl, add-one, arith}
+use Rattle.std.proofs.Common.{below_more, add-one, arith}
 use Rattle.text.specs.Numbers.{Digits, said}
-use Rattle.text.specs.Words.{is_blank, Reaches, Starts, next, Word}
-
--- ---- a test whether two flags differ
-pub unlike : (a b : Bool) → not (beq a b) ≡ true → a ≡ b → ⊥
-unlike true true e h = subst T (sym e) tt
-unlike true false e h = subst T h tt
-unlike false true e h = subst T (sym h) tt
-unlike false false e h = subst T (sym e) tt
-
-pub alike : (a b : Bool) → not (beq a b) ≡ false → a ≡ b
-alike true true e = refl
-alike true false e = e
-alike false true e = sym e
-alike false false e = refl
-
--- ---- from a place on, all up to r were gone over
-pub record Going (over : Bool) (s : List ℕ) (from r : ℕ) : Type 0 where
-  pub on : from ≤ r
-  pub within : r ≤ length s
-  pub before : (j : ℕ) → from ≤ j → j < r → is_blank (get_or s j 0) ≡ over
-
-module _ {over : Bool} {s : List ℕ} {from : ℕ} where
-  pub going_none : from ≤ length s → Going over s from from
-  going_none l = record { on = le_refl from; within = l; before = λ j l h. absurd (omega arith) }
-
-  pub going_more : {r : ℕ} → Going over s from r → r < length s → is_blank (get_or s r 0) ≡ over → Going over s from (r + 1)
-  going_more {r} g l e = record {
-    on = omega (arith, g.on);
-    within = omega arith;
-    before = λ j a b. below_more (λ k. from ≤ k → is_blank (get_or s k 0) ≡ over) r (λ k h l. g.before k l h) (λ _. e) j b a;
-  }
-
-  pub reached : {r : ℕ} → Going over s from r → (is_blank (get_or s r 0) ≡ over → ⊥) → Reaches over s from r
-  reached g n = record { on = g.on; within = g.within; before = g.before; found = λ _. n }
-
-  pub reached_end : {r : ℕ} → Going over s from r → length s ≤ r → Reaches over s from r
-  reached_end g l = record { on = g.on; within = g.within; before = g.before; found = λ h. absurd (omega arith) }
+use Rattle.text.specs.Words.{Reaches, Starts, next, Word}
 
 -- ---- the first k bytes are digits, and v is the number that they say, or 65,536 where that is larger
 pub record Saying (s : List ℕ) (k v : ℕ) : Type 0 where

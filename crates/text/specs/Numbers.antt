@@ -1,7 +1,7 @@
 -- § 9.2: the numbers that words say, in decimal digits.
-use Rattle.std.specs.Prelude.{ℕ, zero, suc, ◌+◌, ◌-◌, ◌*◌, ◌≤◌, ◌<◌, List, ◌≡◌, length, get_or}
-use Rattle.text.specs.declared.Decimal.{Decimal}
-use Rattle.text.specs.declared.Decimal.TheVariants.{Is, Above, Not}
+use Rattle.std.specs.Prelude.{ℕ, zero, suc, ◌+◌, ◌-◌, ◌*◌, ◌≤◌, ◌<◌, List, ◌≡◌, length, get_or, Result, Ok, Err}
+use Rattle.text.specs.declared.NotANumber.{NotANumber}
+use Rattle.text.specs.declared.NotANumber.TheVariants.{NotDigits, Above}
 
 -- one digit or more, and nothing else
 pub record Digits (s : List ℕ) : Type 0 where
@@ -15,7 +15,7 @@ said s zero = 0
 said s (suc k) = 10 * said s k + (get_or s k 0 - 48)
 
 -- a number up to 65,535, one above it, or none
-abbrev pub Says : List ℕ → Decimal → Type 0
-Says s (Is v) = Digits s × (v ≡ said s (length s)) × (v ≤ 65535)
-Says s Above = Digits s × (65535 < said s (length s))
-Says s Not = Digits s → ⊥
+abbrev pub Says : List ℕ → Result ℕ NotANumber → Type 0
+Says s (Ok v) = Digits s × (v ≡ said s (length s)) × (v ≤ 65535)
+Says s (Err Above) = Digits s × (65535 < said s (length s))
+Says s (Err NotDigits) = Digits s → ⊥

@@ -1,9 +1,9 @@
 -- Any two words, and any two numbers, that the contracts allow are equal.
-use Rattle.std.specs.Prelude.{ℕ, ◌-◌, ◌<◌, Bool, List, ◌≡◌, refl, take, drop}
+use Rattle.std.specs.Prelude.{ℕ, ◌-◌, ◌<◌, Bool, List, ◌≡◌, refl, take, drop, Result, Ok, Err}
 use Rattle.std.proofs.Common.{sym, ap, ap₂, ◌∙◌, arith}
 use Rattle.std.proofs.Math.Decide.{dec_lt}
-use Rattle.text.specs.declared.Decimal.{Decimal}
-use Rattle.text.specs.declared.Decimal.TheVariants.{Is, Above, Not}
+use Rattle.text.specs.declared.NotANumber.{NotANumber}
+use Rattle.text.specs.declared.NotANumber.TheVariants.{NotDigits, Above}
 use Rattle.text.specs.Numbers.{Says}
 use Rattle.text.specs.Words.{Reaches, Starts, first, next, Word}
 
@@ -32,13 +32,13 @@ word_one {s} p q =
     let e = onward a p.ends q.ends in
     p.is ∙ ap₂ (λ (x y : ℕ). take (y - x) (drop x s)) a e ∙ sym q.is
 
-pub says_one : (s : List ℕ) (x y : Decimal) → Says s x → Says s y → x ≡ y
-says_one s (Is v) (Is w) p q = ap Is (p.1 ∙ sym q.1)
-says_one s (Is v) Above p q = absurd (omega arith)
-says_one s (Is v) Not p q = absurd (q p.0)
-says_one s Above (Is w) p q = absurd (omega arith)
-says_one s Above Above p q = refl
-says_one s Above Not p q = absurd (q p.0)
-says_one s Not (Is w) p q = absurd (p q.0)
-says_one s Not Above p q = absurd (p q.0)
-says_one s Not Not p q = refl
+pub says_one : (s : List ℕ) (x y : Result ℕ NotANumber) → Says s x → Says s y → x ≡ y
+says_one s (Ok v) (Ok w) p q = ap Ok (p.1 ∙ sym q.1)
+says_one s (Ok v) (Err Above) p q = absurd (omega arith)
+says_one s (Ok v) (Err NotDigits) p q = absurd (q p.0)
+says_one s (Err Above) (Ok w) p q = absurd (omega arith)
+says_one s (Err Above) (Err Above) p q = refl
+says_one s (Err Above) (Err NotDigits) p q = absurd (q p.0)
+says_one s (Err NotDigits) (Ok w) p q = absurd (p q.0)
+says_one s (Err NotDigits) (Err Above) p q = absurd (p q.0)
+says_one s (Err NotDigits) (Err NotDigits) p q = refl

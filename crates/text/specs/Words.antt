@@ -1,13 +1,9 @@
 -- § 9.2: the words of a line, largest parts without blanks, counted from 0.
-use Rattle.std.specs.Prelude.{ℕ, suc, ◌-◌, ◌≤◌, ◌<◌, Bool, true, false, List, ◌≡◌, eqb, length, get_or, take, drop}
-
-abbrev or : Bool → Bool → Bool
-or true b = true
-or false b = b
+use Rattle.std.specs.Prelude.{ℕ, suc, ◌-◌, ◌≤◌, ◌<◌, Bool, true, false, ◌||◌, ◌==◌, List, ◌≡◌, length, get_or, take, drop}
 
 -- a space or a tab
 abbrev pub is_blank : ℕ → Bool
-is_blank b = or (eqb b 32) (eqb b 9)
+is_blank b = (b == 32) || (b == 9)
 
 -- r is the first place from `from` on whose byte is no blank (over blanks), or is one (over all but blanks); or the end
 pub record Reaches (over : Bool) (s : List ℕ) (from r : ℕ) : Type 0 where

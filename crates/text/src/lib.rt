@@ -1,90 +1,71 @@
 // The words of a line of text, and the numbers that words say.
 #![tactic(auto)]
 
-ghost use Rattle.std.specs.Prelude.{◌≡◌, ◌+◌, ◌-◌, ◌*◌, ◌≤◌, min, length};
-ghost use Rattle.text.specs.Words.{is_blank, Reaches, Word};
+ghost use Rattle.std.specs.Prelude.{◌≡◌, ℕ, ◌+◌, ◌≤◌, ◌<◌, true, false, not, length, slice_index};
+ghost use Rattle.text.specs.Words.{is_blank, Word};
 ghost use Rattle.text.specs.Numbers.{Says};
 
-// What a word says as a number.
-#[derive(Clone, Copy)]
-pub enum Decimal {
-    Is { value: u16 },
+// Why a word says no number: it is not of decimal digits, or it says one above 65,535.
+#[derive(Clone, Copy, Debug, PartialEq, Eq)]
+pub enum NotANumber {
+    NotDigits,
     Above,
-    Not,
 }
 
 // Spaces and tabs stand between words.
 fn blank(b: u8) -> bool
     ensures { result ≡ is_blank b }
 {
-    if b == b' ' {
-        return true;
-    }
-    b == b'\t'
+    b == b' ' || b == b'\t'
 }
 
-// Goes from a place over blanks, or over all but blanks, to the first byte that is another, or to the line's end.
-fn skip(line: &[u8], from: usize, over: bool) -> usize
-    requires { from ≤ length line.now }
-    ensures { Reaches over line.now from result }
+// Every other byte is part of a word.
+fn inked(b: u8) -> bool
+    ensures { result ≡ not (is_blank b) }
 {
-    let mut at = from;
-    while at < line.len() {
-        if blank(line[at]) != over {
-            return at;
-        }
-        at += 1;
-    }
-    at
+    !blank(b)
+}
+
+// The first place from `from` on whose byte passes the test, or the line's end.
+fn first<F: Fn(u8) -> bool>(line: &[u8], from: usize, test: F) -> usize
+    requires from { from ≤ length line.now }
+    requires test { F.IsAlwaysCallable test }
+    ensures on { from ≤ result }
+    ensures within { result ≤ length line.now }
+    ensures before { (k : ℕ) → from + k < result → F.post test (slice_index line.now (from + k)) false }
+    ensures found { result < length line.now → F.post test (slice_index line.now result) true }
+{
+    line[from..]
+        .iter()
+        .position(|b| test(*b))
+        .map_or(line.len(), |k| from + k)
 }
 
 // Word k of a line, counted from 0. No word is empty: where there are fewer words, an empty part of the line stands for it.
 pub fn word(line: &[u8], k: usize) -> &[u8]
     ensures { Word line.now k result.now }
 {
-    let mut start = skip(line, 0, true);
-    let mut i = 0;
-    while i < k {
-        let end = skip(line, start, false);
-        start = skip(line, end, true);
-        i += 1;
+    let mut start = first(line, 0, inked);
+    for _ in 0..k {
+        start = first(line, first(line, start, blank), inked);
     }
-    let end = skip(line, start, false);
-    &line[start..end]
-}
-
-// A number with one more digit at its end, or 65,536 where it would be larger.
-fn with_digit(value: u32, digit: u8) -> u32
-    requires { (value ≤ 65536) × (48 ≤ digit) × (digit ≤ 57) }
-    ensures { result ≡ min 65536 (10 * value + (digit - 48)) }
-{
-    let next = 10 * value + ((digit - b'0') as u32);
-    if next < 65536 { next } else { 65536 }
+    &line[start..first(line, start, blank)]
 }
 
 // The number that a word says in decimal digits, if it does and the number is at most 65,535.
-pub fn number(word: &[u8]) -> Decimal
+pub fn number(word: &[u8]) -> Result<u16, NotANumber>
     ensures { Says word.now result }
 {
-    if word.len() == 0 {
-        return Decimal::Not;
+    if word.is_empty() {
+        return Err(NotANumber::NotDigits);
     }
     let mut value: u32 = 0;
-    let mut i = 0;
-    while i < word.len() {
-        if word[i] < b'0' {
-            return Decimal::Not;
+    for &digit in word {
+        if !digit.is_ascii_digit() {
+            return Err(NotANumber::NotDigits);
         }
-        if b'9' < word[i] {
-            return Decimal::Not;
-        }
-        value = with_digit(value, word[i]);
-        i += 1;
+        // Any larger number is kept as 65,536.
+        value = (10 * value + u32::from(digit - b'0')).min(65536);
     }
-    if 65535 < value {
-        return Decimal::Above;
-    }
-    Decimal::Is {
-        value: value as u16,
-    }
+    u16::try_from(value).map_err(|_| NotANumber::Above)
 }

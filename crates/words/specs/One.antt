@@ -1,11 +1,10 @@
 -- What is said from a word on, and what all words ask for, is one thing only.
-use Rattle.std.specs.Prelude.{◌≡◌, ℕ, ◌+◌, Bool, true, List, Vec, Option, Some, None, IsSomeAnd, slice_get, length, get_or, min, refl}
+use Rattle.std.specs.Prelude.{◌≡◌, ℕ, ◌+◌, Bool, true, List, Vec, Option, Some, None, Result, IsSomeAnd, slice_get, length, get_or, min, refl}
 use Rattle.std.proofs.Common.{◌≢◌, sym, ap, ◌∙◌, inl, inr, subst, arith}
-use Rattle.text.specs.declared.Decimal.TheVariants.{Is}
-use Rattle.text.specs.One.{says_one}
 use Rattle.words.specs.declared.Meaning.{Meaning}
-use Rattle.words.specs.declared.Meaning.TheVariants.{Amendment, File, Nothing}
-use Rattle.words.specs.declared.Request.{Request}
+use Rattle.words.specs.declared.Meaning.TheVariants.{Amendment, File}
+use Rattle.words.specs.declared.Keying.{Keying}
+use Rattle.words.specs.declared.Nonsense.{Nonsense}
 use Rattle.words.specs.Length.{words_in}
 use Rattle.words.specs.Said.{IsWord, IsNumber, IsAmendment, IsFile, Means, AsksFrom, Asks}
 use Rattle.words.specs.Said.AsksFrom.{ends, says_nothing, second_file, names_file, amends}
@@ -14,9 +13,6 @@ use Rattle.words.specs.Said.AsksFrom.{ends, says_nothing, second_file, names_fil
 of_one : {A : Type 0} {P Q : A → Type 0} {R : Type 0} (o : Option A) → ((x : A) → P x → Q x → R) → IsSomeAnd o P → IsSomeAnd o Q → R
 of_one None f p q = absurd p
 of_one (Some x) f p q = f x p q
-
-is_one : (m n : ℕ) → Is m ≡ Is n → m ≡ n
-is_one m n e = cc
 
 amendments_equal : (kind first second kind' first' second' : ℕ) → kind ≡ kind' → first ≡ first' → second ≡ second'
     → Amendment kind first second ≡ Amendment kind' first' second'
@@ -28,7 +24,7 @@ module _ {Z : Type 0} (words : List (Vec ℕ Z)) where
   not_both k u v differ p q = of_one (slice_get words k) (λ word a b. differ (ap (λ w. get_or w 0 0) (sym a ∙ b))) p q
 
   number_one : (k m n : ℕ) → IsNumber words k m → IsNumber words k n → m ≡ n
-  number_one k m n p q = of_one (slice_get words k) (λ word a b. is_one m n (says_one word.items (Is m) (Is n) a.1 b.1)) p q
+  number_one k m n p q = of_one (slice_get words k) (λ word a b. cc) p q
 
   amendment_one : (i kind first second kind' first' second' : ℕ) → IsAmendment words i kind first second → IsAmendment words i kind' first' second'
       → Amendment kind first second ≡ Amendment kind' first' second'
@@ -49,25 +45,25 @@ module _ {Z : Type 0} (words : List (Vec ℕ Z)) where
   no_file i k f s (inr (inl p)) q = not_both i _ _ (omega arith) p.0 q.0
   no_file i k f s (inr (inr p)) q = not_both i _ _ (omega arith) p.0 q.0
 
-pub means_one : {Z : Type 0} (words : List (Vec ℕ Z)) (i : ℕ) (a b : Meaning) → Means words i a → Means words i b → a ≡ b
-means_one words i (Amendment k f s) (Amendment k' f' s') p q = amendment_one words i k f s k' f' s' p q
-means_one words i (Amendment k f s) File p q = absurd (no_file words i k f s p q)
-means_one words i (Amendment k f s) Nothing p q = absurd (q.0 k f s p)
-means_one words i File (Amendment k f s) p q = absurd (no_file words i k f s q p)
-means_one words i File File p q = refl
-means_one words i File Nothing p q = absurd (q.1 p)
-means_one words i Nothing (Amendment k f s) p q = absurd (p.0 k f s q)
-means_one words i Nothing File p q = absurd (p.1 q)
-means_one words i Nothing Nothing p q = refl
+pub means_one : {Z : Type 0} (words : List (Vec ℕ Z)) (i : ℕ) (a b : Option Meaning) → Means words i a → Means words i b → a ≡ b
+means_one words i (Some (Amendment k f s)) (Some (Amendment k' f' s')) p q = ap Some (amendment_one words i k f s k' f' s' p q)
+means_one words i (Some (Amendment k f s)) (Some File) p q = absurd (no_file words i k f s p q)
+means_one words i (Some (Amendment k f s)) None p q = absurd (q.0 k f s p)
+means_one words i (Some File) (Some (Amendment k f s)) p q = absurd (no_file words i k f s q p)
+means_one words i (Some File) (Some File) p q = refl
+means_one words i (Some File) None p q = absurd (q.1 p)
+means_one words i None (Some (Amendment k f s)) p q = absurd (p.0 k f s q)
+means_one words i None (Some File) p q = absurd (p.1 q)
+means_one words i None None p q = refl
 
 module _ {Z : Type 0} (words : List (Vec ℕ Z)) where
   -- two readings of one amendment go on at the same word
-  onward : (i file : ℕ) (a b : Meaning) (request : Request) → Means words i a → Means words i b
-      → AsksFrom words (min (i + words_in b) (length words)) true file request → AsksFrom words (min (i + words_in a) (length words)) true file request
-  onward i file a b request p q t =
-      subst (λ (m : Meaning). AsksFrom words (min (i + words_in m) (length words)) true file request) (means_one words i b a q p) t
+  onward : (i : ℕ) (file : Option ℕ) (a b : Option Meaning) (asked : Result Keying Nonsense) → Means words i a → Means words i b
+      → AsksFrom words (min (i + words_in b) (length words)) true file asked → AsksFrom words (min (i + words_in a) (length words)) true file asked
+  onward i file a b asked p q t =
+      subst (λ (m : Option Meaning). AsksFrom words (min (i + words_in m) (length words)) true file asked) (means_one words i b a q p) t
 
-  from_one : {i file : ℕ} {amended : Bool} {a b : Request} → AsksFrom words i amended file a → AsksFrom words i amended file b → a ≡ b
+  from_one : {i : ℕ} {amended : Bool} {file : Option ℕ} {a b : Result Keying Nonsense} → AsksFrom words i amended file a → AsksFrom words i amended file b → a ≡ b
   from_one (ends l) (ends m) = refl
   from_one (ends l) (says_nothing m q) = absurd (omega arith)
   from_one (ends l) (second_file m q g) = absurd (omega arith)
@@ -92,7 +88,8 @@ module _ {Z : Type 0} (words : List (Vec ℕ Z)) where
   from_one (amends k f s l p r) (says_nothing m q) = absurd (q.0 k f s p)
   from_one (amends {i} k f s l p r) (second_file m q h) = absurd (no_file words i k f s p q)
   from_one (amends {i} k f s l p r) (names_file m q t) = absurd (no_file words i k f s p q)
-  from_one (amends {i} {file} k f s l p r) (amends {request = b} k' f' s' m q t) = from_one r (onward i file (Amendment k f s) (Amendment k' f' s') b p q t)
+  from_one (amends {i} {file = file} k f s l p r) (amends {asked = b} k' f' s' m q t) =
+      from_one r (onward i file (Some (Amendment k f s)) (Some (Amendment k' f' s')) b p q t)
 
-pub asks_one : {Z : Type 0} (words : List (Vec ℕ Z)) (a b : Request) → Asks words a → Asks words b → a ≡ b
+pub asks_one : {Z : Type 0} (words : List (Vec ℕ Z)) (a b : Result Keying Nonsense) → Asks words a → Asks words b → a ≡ b
 asks_one words a b p q = from_one words p q

@@ -1,12 +1,10 @@
 -- What words say, from one of them on.
-use Rattle.std.specs.Prelude.{◌≡◌, ℕ, ◌+◌, ◌≤◌, ◌<◌, ◌⊎◌, List, length, codes, slice_get, IsSomeAnd, Vec, ◌≢◌, min, Bool, true, false}
+use Rattle.std.specs.Prelude.{◌≡◌, ℕ, ◌+◌, ◌≤◌, ◌<◌, ◌⊎◌, List, length, codes, slice_get, IsSomeAnd, Vec, ◌≢◌, min, Bool, true, false, Option, Some, None, Result, Ok, Err}
 use Rattle.text.specs.Numbers.{Says}
-use Rattle.text.specs.declared.Decimal.{Decimal}
-use Rattle.text.specs.declared.Decimal.TheVariants.{Is, Above, Not}
 use Rattle.words.specs.declared.Meaning.{Meaning}
-use Rattle.words.specs.declared.Meaning.TheVariants.{Amendment, File, Nothing}
-use Rattle.words.specs.declared.Request.{Request}
-use Rattle.words.specs.declared.Request.TheVariants.{Keying, Nonsense}
+use Rattle.words.specs.declared.Meaning.TheVariants.{Amendment, File}
+use Rattle.words.specs.declared.Keying.{Keying}
+use Rattle.words.specs.declared.Nonsense.{Nonsense}
 use Rattle.words.specs.Length.{words_in}
 
 module _ {Z : Type 0} (words : List (Vec ℕ Z)) where
@@ -16,25 +14,24 @@ module _ {Z : Type 0} (words : List (Vec ℕ Z)) where
 
   -- word k says this number, in at most 4,096 bytes
   abbrev pub IsNumber : ℕ → ℕ → Type 0
-  IsNumber k n = IsSomeAnd (slice_get words k) (λ word. (length word.items ≤ 4096) × Says word.items (Is n))
+  IsNumber k n = IsSomeAnd (slice_get words k) (λ word. (length word.items ≤ 4096) × Says word.items (Ok n))
 
   -- the number that word k says, or that it says none
-  abbrev pub NumberAt : ℕ → Decimal → Type 0
-  NumberAt k (Is n) = IsNumber k n
-  NumberAt k Above = (n : ℕ) → IsNumber k n → ⊥
-  NumberAt k Not = (n : ℕ) → IsNumber k n → ⊥
+  abbrev pub NumberAt : ℕ → Option ℕ → Type 0
+  NumberAt k (Some n) = IsNumber k n
+  NumberAt k None = (n : ℕ) → IsNumber k n → ⊥
 
   -- a kind of amendment and the number of its run in word k, or that word k says none
-  abbrev pub RunAt : ℕ → ℕ → Meaning → Type 0
-  RunAt kind k (Amendment kind' first second) = (kind' ≡ kind) × IsNumber k first × (second ≡ 0)
-  RunAt kind k File = ⊥
-  RunAt kind k Nothing = (n : ℕ) → IsNumber k n → ⊥
+  abbrev pub RunAt : ℕ → ℕ → Option Meaning → Type 0
+  RunAt kind k (Some (Amendment kind' first second)) = (kind' ≡ kind) × IsNumber k first × (second ≡ 0)
+  RunAt kind k (Some File) = ⊥
+  RunAt kind k None = (n : ℕ) → IsNumber k n → ⊥
 
   -- a narrowing by the numbers that word k and the word after it say, or that they do not both say one
-  abbrev pub NarrowingAt : ℕ → Meaning → Type 0
-  NarrowingAt k (Amendment kind first second) = (kind ≡ 3) × IsNumber k first × IsNumber (k + 1) second
-  NarrowingAt k File = ⊥
-  NarrowingAt k Nothing = (low high : ℕ) → IsNumber k low → IsNumber (k + 1) high → ⊥
+  abbrev pub NarrowingAt : ℕ → Option Meaning → Type 0
+  NarrowingAt k (Some (Amendment kind first second)) = (kind ≡ 3) × IsNumber k first × IsNumber (k + 1) second
+  NarrowingAt k (Some File) = ⊥
+  NarrowingAt k None = (low high : ℕ) → IsNumber k low → IsNumber (k + 1) high → ⊥
 
   -- an amendment from word i on: 'pin' or 'strike' and a run, or 'narrow' and two counts
   abbrev pub IsAmendment : ℕ → ℕ → ℕ → ℕ → Type 0
@@ -48,26 +45,29 @@ module _ {Z : Type 0} (words : List (Vec ℕ Z)) where
   IsFile i = IsWord i (codes "-o") × (i + 1 < length words)
 
   -- what is said from word i on; nothing is said where it is no amendment and no file
-  abbrev pub Means : ℕ → Meaning → Type 0
-  Means i (Amendment kind first second) = IsAmendment i kind first second
-  Means i File = IsFile i
-  Means i Nothing = ((kind first second : ℕ) → IsAmendment i kind first second → ⊥) × (IsFile i → ⊥)
+  abbrev pub Means : ℕ → Option Meaning → Type 0
+  Means i (Some (Amendment kind first second)) = IsAmendment i kind first second
+  Means i (Some File) = IsFile i
+  Means i None = ((kind first second : ℕ) → IsAmendment i kind first second → ⊥) × (IsFile i → ⊥)
 
 -- What all words ask for, read from left to right: from word i on, where so far something was amended or not, and a file was named or not.
-pub data AsksFrom {Z : Type 0} (words : List (Vec ℕ Z)) : ℕ → Bool → ℕ → Request → Type 0 where
+pub data AsksFrom {Z : Type 0} (words : List (Vec ℕ Z)) : ℕ → Bool → Option ℕ → Result Keying Nonsense → Type 0 where
   -- the words end
-  ends : {i file : ℕ} {amended : Bool} → length words ≤ i → AsksFrom words i amended file (Keying amended file)
+  ends : {i : ℕ} {amended : Bool} {file : Option ℕ} → length words ≤ i → AsksFrom words i amended file (Ok (record { amended = amended; file = file }))
   -- nothing is said here
-  says_nothing : {i file : ℕ} {amended : Bool} → i < length words → Means words i Nothing → AsksFrom words i amended file (Nonsense i)
+  says_nothing : {i : ℕ} {amended : Bool} {file : Option ℕ} → i < length words → Means words i None
+      → AsksFrom words i amended file (Err (record { word = i }))
   -- a second file is named here
-  second_file : {i file : ℕ} {amended : Bool} → i < length words → Means words i File → file ≢ 0 → AsksFrom words i amended file (Nonsense i)
+  second_file : {i : ℕ} {amended : Bool} {file : Option ℕ} → i < length words → Means words i (Some File) → file ≢ None
+      → AsksFrom words i amended file (Err (record { word = i }))
   -- a file is named here
-  names_file : {i : ℕ} {amended : Bool} {request : Request} → i < length words → Means words i File
-      → AsksFrom words (min (i + words_in File) (length words)) amended (i + 1) request → AsksFrom words i amended 0 request
+  names_file : {i : ℕ} {amended : Bool} {asked : Result Keying Nonsense} → i < length words → Means words i (Some File)
+      → AsksFrom words (min (i + words_in (Some File)) (length words)) amended (Some (i + 1)) asked → AsksFrom words i amended None asked
   -- something is amended here
-  amends : {i file : ℕ} {amended : Bool} {request : Request} (kind first second : ℕ) → i < length words → Means words i (Amendment kind first second)
-      → AsksFrom words (min (i + words_in (Amendment kind first second)) (length words)) true file request → AsksFrom words i amended file request
+  amends : {i : ℕ} {amended : Bool} {file : Option ℕ} {asked : Result Keying Nonsense} (kind first second : ℕ) → i < length words
+      → Means words i (Some (Amendment kind first second))
+      → AsksFrom words (min (i + words_in (Some (Amendment kind first second))) (length words)) true file asked → AsksFrom words i amended file asked
 
 -- word 0 is the program's own name
-abbrev pub Asks : {Z : Type 0} → List (Vec ℕ Z) → Request → Type 0
-Asks words request = AsksFrom words 1 false 0 request
+abbrev pub Asks : {Z : Type 0} → List (Vec ℕ Z) → Result Keying Nonsense → Type 0
+Asks words asked = AsksFrom words 1 false None asked

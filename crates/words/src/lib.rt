@@ -10,25 +10,28 @@ use std::env::{Env, FillError};
 use std::fs::File;
 use std::io;
 use std::io::Write;
-use text::Decimal;
 
 // No word of more bytes says anything, and none of as many names a file.
 const LONGEST: usize = 4096;
 
-// What is said from one word on: an amendment, its three numbers; '-o' and the name of a file; or neither.
-#[derive(Clone, Copy)]
+// What is said from one word on: an amendment, its three numbers; or '-o' and the name of a file.
+#[derive(Clone, Copy, Debug, PartialEq, Eq)]
 pub enum Meaning {
     Amendment { kind: u16, first: u16, second: u16 },
     File,
-    Nothing,
 }
 
-// What all words ask for: whether something is amended, and the word that names a file, or 0;
-// or the word from which on they say nothing.
-#[derive(Clone, Copy)]
-pub enum Request {
-    Keying { amended: bool, file: usize },
-    Nonsense { word: usize },
+// What all words ask for: whether something is amended, and the word that names a file, if one does.
+#[derive(Clone, Copy, Debug, PartialEq, Eq)]
+pub struct Keying {
+    pub amended: bool,
+    pub file: Option<usize>,
+}
+
+// The word from which on nothing is said.
+#[derive(Clone, Copy, Debug, PartialEq, Eq)]
+pub struct Nonsense {
+    pub word: usize,
 }
 
 // The words that the program was started with, its name first. One of more than 4,096 bytes has its first 4,097 here. Memory that runs out
@@ -36,7 +39,7 @@ pub enum Request {
 pub fn all<R: Env + AllocGlobal>(rt: &R) -> Result<Vec<Vec<u8>>, AllocError> {
     let mut words = Vec::new(rt.alloc());
     for i in 0..usize::MAX {
-        let mut space = [0u8; 4097];
+        let mut space = [0u8; LONGEST + 1];
         let Some(length) = name(rt, i, &mut space) else {
             break;
         };
@@ -89,10 +92,7 @@ fn path(word: &[u8]) -> io::Result<&str> {
     if LONGEST <= word.len() {
         return Err(io::Error::from_raw_os_error(NAME_TOO_LONG));
     }
-    match str::from_utf8(word) {
-        Ok(path) => Ok(path),
-        Err(_) => Err(io::Error::from_raw_os_error(NOT_TEXT)),
-    }
+    str::from_utf8(word).map_err(|_| io::Error::from_raw_os_error(NOT_TEXT))
 }
 
 // Two of the system's numbers for what is wrong, which it has words for.
@@ -114,66 +114,45 @@ fn fail(rt: &HostRuntime, word: &[u8], error: io::Error) -> Result<(), AllocErro
 
 // The words of an error, without its number.
 fn reason(text: &str) -> &str {
-    match text.split_once(" (os error ") {
-        Some((reason, _)) => reason,
-        None => text,
-    }
+    text.split_once(" (os error ")
+        .map_or(text, |(reason, _)| reason)
 }
 
 // What all words say, the first being word 1.
-pub fn asked(words: &[Vec<u8>]) -> Request
+pub fn asked(words: &[Vec<u8>]) -> Result<Keying, Nonsense>
     ensures { Asks words.now result }
 {
-    let count = words.len();
     let mut amended = false;
-    let mut file = 0;
+    let mut file = None;
     let mut i = 1;
-    while i < count {
-        let meaning = said(words, i);
+    while i < words.len() {
+        let meaning = said(words, i).ok_or(Nonsense { word: i })?;
         match meaning {
-            Meaning::Nothing => {
-                return Request::Nonsense { word: i };
-            }
-            Meaning::File => {
-                if file != 0 {
-                    return Request::Nonsense { word: i };
-                }
-                file = i + 1;
-            }
-            Meaning::Amendment {
-                kind: _,
-                first: _,
-                second: _,
-            } => {
-                amended = true;
-            }
+            Meaning::Amendment { .. } => amended = true,
+            Meaning::File if file.is_some() => return Err(Nonsense { word: i }),
+            Meaning::File => file = Some(i + 1),
         }
-        i = past(meaning, i, count);
+        i = past(Some(meaning), i, words.len());
     }
-    Request::Keying { amended, file }
+    Ok(Keying { amended, file })
 }
 
-// What is said from word i on.
-pub fn said(words: &[Vec<u8>], i: usize) -> Meaning
+// What is said from word i on, if anything is.
+pub fn said(words: &[Vec<u8>], i: usize) -> Option<Meaning>
     requires { i < length words.now }
     ensures { Means words.now i result }
 {
     if is(words, i, b"pin") {
-        return of_run(1, words, i);
+        of_run(1, words, i + 1)
+    } else if is(words, i, b"strike") {
+        of_run(2, words, i + 1)
+    } else if is(words, i, b"narrow") {
+        narrowing(words, i + 1)
+    } else if is(words, i, b"-o") && i + 1 < words.len() {
+        Some(Meaning::File)
+    } else {
+        None
     }
-    if is(words, i, b"strike") {
-        return of_run(2, words, i);
-    }
-    if is(words, i, b"narrow") {
-        return narrowing(words, i);
-    }
-    if is(words, i, b"-o") {
-        if words.len() - i < 2 {
-            return Meaning::Nothing;
-        }
-        return Meaning::File;
-    }
-    Meaning::Nothing
 }
 
 // Whether word i is these bytes.
@@ -184,83 +163,51 @@ fn is(words: &[Vec<u8>], i: usize, bytes: &[u8]) -> bool
     words[i].as_slice() == bytes
 }
 
-// A pin or a strike, its run in the next word.
-fn of_run(kind: u16, words: &[Vec<u8>], i: usize) -> Meaning
-    requires { i < length words.now }
-    ensures { RunAt words.now kind (i + 1) result }
+// A pin or a strike, its run in word i.
+fn of_run(kind: u16, words: &[Vec<u8>], i: usize) -> Option<Meaning>
+    ensures { RunAt words.now kind i result }
 {
-    if words.len() - i < 2 {
-        return Meaning::Nothing;
-    }
-    let run = number_at(words, i + 1);
-    let Decimal::Is { value: first } = run else {
-        return Meaning::Nothing;
-    };
-    Meaning::Amendment {
+    let first = number_at(words, i)?;
+    Some(Meaning::Amendment {
         kind,
         first,
         second: 0,
-    }
+    })
 }
 
-// A narrowing, its two counts in the next words.
-fn narrowing(words: &[Vec<u8>], i: usize) -> Meaning
-    requires { i < length words.now }
-    ensures { NarrowingAt words.now (i + 1) result }
+// A narrowing, its two counts in word i and the next.
+fn narrowing(words: &[Vec<u8>], i: usize) -> Option<Meaning>
+    ensures { NarrowingAt words.now i result }
 {
-    if words.len() - i < 3 {
-        return Meaning::Nothing;
-    }
-    let low = number_at(words, i + 1);
-    let Decimal::Is { value: first } = low else {
-        return Meaning::Nothing;
-    };
-    let high = number_at(words, i + 2);
-    let Decimal::Is { value: second } = high else {
-        return Meaning::Nothing;
-    };
-    Meaning::Amendment {
+    let first = number_at(words, i)?;
+    let second = number_at(words, i + 1)?;
+    Some(Meaning::Amendment {
         kind: 3,
         first,
         second,
-    }
+    })
 }
 
-// The word after what is said from word i on, or the end of the words.
-pub fn past(meaning: Meaning, i: usize, count: usize) -> usize
+// The number that word i says. A word of more than 4,096 bytes says none.
+fn number_at(words: &[Vec<u8>], i: usize) -> Option<u16>
+    ensures { NumberAt words.now i result }
+{
+    let word = words.get(i)?;
+    if LONGEST < word.len() {
+        return None;
+    }
+    text::number(word.as_slice()).ok()
+}
+
+// The word after what is said from word i on, or the end of the words. A narrowing is three words, all else two.
+pub fn past(meaning: Option<Meaning>, i: usize, count: usize) -> usize
     requires { i < count }
     ensures value { result ≡ min (i + words_in meaning) count }
     ensures lower_bound { (i < result) × (result ≤ count) }
 {
-    let words = length(meaning);
-    if count - i < words { count } else { i + words }
-}
-
-// How many words say it.
-fn length(meaning: Meaning) -> usize
-    ensures value { result ≡ words_in meaning }
-    ensures lower_bound { (2 ≤ result) × (result ≤ 3) }
-{
-    match meaning {
-        Meaning::Nothing => 2,
-        Meaning::File => 2,
-        Meaning::Amendment {
-            kind,
-            first: _,
-            second: _,
-        } => { if kind == 3 { 3 } else { 2 } }
-    }
-}
-
-// The number that word i says. A word of more than 4,096 bytes says none.
-fn number_at(words: &[Vec<u8>], i: usize) -> Decimal
-    ensures { NumberAt words.now i result }
-{
-    let Some(word) = words.get(i) else {
-        return Decimal::Not;
+    let words = match meaning {
+        Some(Meaning::Amendment { kind: 3, .. }) => 3,
+        _ => 2,
     };
-    if LONGEST < word.len() {
-        return Decimal::Not;
-    }
-    text::number(word.as_slice())
+    i + words.min(count - i)
 }

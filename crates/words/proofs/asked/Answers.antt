@@ -1,41 +1,53 @@
-use Rattle.std.proofs.Common.{◌≡◌, ℕ, ◌+◌, ◌<◌, min, length, Bool, true, List, Vec, ap, sym, subst, ◌∙◌}
+use Rattle.std.proofs.Common.{◌≡◌, ℕ, ◌+◌, ◌<◌, min, length, Bool, true, List, Vec, ap, ◌∙◌, arith}
+use Rattle.std.specs.Prelude.{Option, Some, None, Result, Err}
+use Rattle.std.proofs.lemmas.Grind.{common_steps}
+use Rattle.std.proofs.lemmas.Result.{err_from_is_err_and}
 use Rattle.words.specs.Length.{words_in}
+use Rattle.words.specs.declared.Keying.{Keying}
+use Rattle.words.specs.declared.Nonsense.{Nonsense}
 use Rattle.words.specs.declared.Meaning.{Meaning}
 use Rattle.words.specs.declared.Meaning.TheVariants.{Amendment, File}
-use Rattle.words.specs.declared.Request.{Request}
 use Rattle.words.specs.Said.{Means, AsksFrom}
 use Rattle.words.specs.Said.AsksFrom.{ends, says_nothing, second_file, names_file, amends}
 use Rattle.words.proofs.asked.Goals as goal
-use Rattle.words.proofs.asked.Goals.{in-File+else-file-ne0, in-Amendment}
+use Rattle.words.proofs.asked.Goals.{in-Amendment, in-File-2}
 
-module _ {Z : Type 0} (words : List (Vec ℕ Z)) (i p : ℕ) (meaning : Meaning) (past : p ≡ min (i + words_in meaning) (length words)) (there : i < length words) where
-  file_named : (amended : Bool) (file : ℕ) (request : Request) → meaning ≡ File → Means words i File → file ≡ 0
-      → AsksFrom words p amended (i + 1) request → AsksFrom words i amended file request
-  file_named amended file request is named none rest =
-      subst (λ (f : ℕ). AsksFrom words i amended f request) (sym none)
-      (names_file there named (subst (λ (k : ℕ). AsksFrom words k amended (i + 1) request) (past ∙ ap (λ m. min (i + words_in m) (length words)) is) rest))
+module _ {Z : Type 0} (words : List (Vec ℕ Z)) (i : ℕ) (there : i < length words) (said : Option Meaning) (means : Means words i said) (amended : Bool) (file : Option ℕ) where
+  nothing_here : said ≡ None → AsksFrom words i amended file (Err (record { word = i }))
+  nothing_here is = says_nothing there (rw is at means)
 
-  amended_here : (amended : Bool) (file kind first second : ℕ) (request : Request) → meaning ≡ Amendment kind first second → Means words i (Amendment kind first second)
-      → AsksFrom words p true file request → AsksFrom words i amended file request
-  amended_here amended file kind first second request is said rest =
-      amends kind first second there said (subst (λ (k : ℕ). AsksFrom words k true file request) (past ∙ ap (λ m. min (i + words_in m) (length words)) is) rest)
+  again_here : said ≡ Some File → (file ≡ None → ⊥) → AsksFrom words i amended file (Err (record { word = i }))
+  again_here is named = second_file there (rw is at means) named
 
-pub returns-in-Nothing : goal.returns-in-Nothing
-returns-in-Nothing c = c.loop-i.invariant _ (says_nothing c.loop-i-test.true c.in-Nothing.ensures)
+  module _ (p : ℕ) (past : p ≡ min (i + words_in said) (length words)) (asked : Result Keying Nonsense) where
+    file_here : said ≡ Some File → file ≡ None → AsksFrom words p amended (Some (i + 1)) asked → AsksFrom words i amended file asked
+    file_here is none rest = rw none (names_file there (rw is at means) (rw (past, is) at rest))
 
-pub returns-then-file-ne0 : goal.returns-then-file-ne0
-returns-then-file-ne0 c = c.loop-i.invariant _ (second_file c.loop-i-test.true c.in-File.ensures c.if-file-ne0.true)
+    amended_here : (kind first second : ℕ) → said ≡ Some (Amendment kind first second) → AsksFrom words p true file asked → AsksFrom words i amended file asked
+    amended_here kind first second is rest = amends kind first second there (rw is at means) (rw (past, is) at rest)
+
+pub returns-in_err-meaning : goal.returns-in_err-meaning
+returns-in_err-meaning c =
+    let is : c.said.result ≡ None = grind arith in
+    let p = err_from_is_err_and c.from_residual.result c.from_residual.ensures.1 in
+    let e : p.0 ≡ record { word = c.loop-i.i } = grind arith in
+    rw (p.1, e) (c.loop-i.invariant _ (nothing_here _ _ c.loop-i-test.true c.said.result c.said.ensures _ _ is))
+
+pub returns-in-File : goal.returns-in-File
+returns-in-File c =
+    let is : c.said.result ≡ Some File = grind arith in
+    c.loop-i.invariant _ (again_here _ _ c.loop-i-test.true c.said.result c.said.ensures _ _ is (λ e. grind (arith, common_steps)))
 
 pub loop-i-preserved : goal.loop-i-preserved
 loop-i-preserved c =
-    λ request rest. c.loop-i.invariant request
-    (elim c.match-meaning.branch [
-      | in-File+else-file-ne0 w ↦
-          file_named c.args.words.now c.loop-i.i c.past-i.result c.said-meaning.result c.past-i.ensures.value c.loop-i-test.true
-          c.loop-i.amended c.loop-i.file request w.in-File.is w.in-File.ensures w.if-file-ne0.false (rw (w.amended-is, w.file-is) at rest)
+    λ asked rest. c.loop-i.invariant asked
+    (let some : c.said.result ≡ Some c.in_ok-meaning.meaning = grind arith in
+    let past : c.past-i.result ≡ min (c.loop-i.i + words_in c.said.result) (length c.args.words.now) = rw some c.past-i.ensures.value in
+    elim c.match-meaning.branch [
       | in-Amendment w ↦
-          amended_here c.args.words.now c.loop-i.i c.past-i.result c.said-meaning.result c.past-i.ensures.value c.loop-i-test.true
-          c.loop-i.amended c.loop-i.file _ _ _ request w.in-Amendment.is w.in-Amendment.ensures (rw (w.amended-is, w.file-is) at rest)
+          amended_here _ _ c.loop-i-test.true c.said.result c.said.ensures _ _ _ past asked _ _ _ (some ∙ ap Some w.in-Amendment.is) (rw (w.amended-is, w.file-is) at rest)
+      | in-File-2 w ↦
+          file_here _ _ c.loop-i-test.true c.said.result c.said.ensures _ _ _ past asked (some ∙ ap Some w.in-File-2.is) (grind (arith, common_steps)) (rw (w.amended-is, w.file-is) at rest)
     ])
 
 pub returns : goal.returns
