@@ -20,7 +20,7 @@ bridge_one (bare n x a) (supplied m z w b) = absurd (x z w)
 bridge_one (bare n x a) (bare m z b) = a ∙ sym b
 
 -- a number is that of one kind
-kind_one : (a b : Kind) → kind_number a ≡ kind_number b → a ≡ b
+pub kind_one : (a b : Kind) → kind_number a ≡ kind_number b → a ≡ b
 kind_one Bypassed Bypassed e = refl
 kind_one Bypassed Supplied e = absurd (omega arith)
 kind_one Bypassed Bare e = absurd (omega arith)

@@ -38,8 +38,10 @@ module _ {via : List ℕ} {passed fed : List Bool} {m : ℕ} where
     told_way {k} few v h = record {
       size = length-set kinds (at via i) k ∙ t.size;
       way = λ x l w one. elim (ℕ_discrete x i) [
-        | yes e ↦ subst (λ (j : ℕ). Ruled (get_or passed j false) (get_or fed j false) (get_or (set kinds (at via i) k) (at via j) Bypassed)) (sym e) (subst (Ruled (get_or passed i false) (get_or fed i false)) (sym (get_or-set_same kinds (at via i) k Bypassed (omega (arith, t.size)))) h)
-        | no n ↦ subst (Ruled (get_or passed x false) (get_or fed x false)) (sym (get_or-set_other kinds (at via i) (at via x) k Bypassed (λ e. n (sym (one i (omega arith) (sym e)))))) (t.way x (omega arith) w (λ y b. one y (omega arith)))
+        | yes e ↦ subst (λ (j : ℕ). Ruled (get_or passed j false) (get_or fed j false) (get_or (set kinds (at via i) k) (at via j) Bypassed)) (sym e)
+            (subst (Ruled (get_or passed i false) (get_or fed i false)) (sym (get_or-set_same kinds (at via i) k Bypassed (omega (arith, t.size)))) h)
+        | no n ↦ subst (Ruled (get_or passed x false) (get_or fed x false)) (sym (get_or-set_other kinds (at via i) (at via x) k Bypassed (λ e. n (sym (one i (omega arith) (sym e))))))
+            (t.way x (omega arith) w (λ y b. one y (omega arith)))
       ];
       rest = λ r free. get_or-set_other kinds (at via i) r k Bypassed (λ e. free i (omega arith) (sym e)) ∙ t.rest r (λ x b. free x (omega arith));
     }
