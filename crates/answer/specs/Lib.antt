@@ -1,3 +1,4 @@
 pub mod Reply
 pub mod Table
 pub mod Laws
+pub mod Text

@@ -1,8 +1,9 @@
 // What every call answers: the paper's counts, or a row of its table of refusals; and a range of segment counts.
 #![tactic(auto)]
 
-ghost use Rattle.std.specs.Prelude.{◌≡◌};
+ghost use Rattle.std.specs.Prelude.{◌≡◌, Some};
 ghost use Rattle.answer.specs.Reply.{number_of, place_of, both};
+ghost use Rattle.answer.specs.Text.{refusal_text};
 
 use std::fmt;
 
@@ -92,6 +93,8 @@ impl Refusal {
 
 // As the programs print it.
 impl fmt::Display for Refusal {
+    ghost output = { λ refusal. Some (refusal_text refusal) };
+
     fn fmt<W: fmt::Write>(&self, f: &mut fmt::Formatter<W>) -> fmt::Result {
         write!(f, "refused {} {}", self.number(), self.place())
     }

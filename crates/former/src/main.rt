@@ -4,33 +4,29 @@
 
 ghost use Rattle.std.specs.Prelude.{◌≤◌, length};
 
-use answer::Range;
+use answer::Refusal;
+use items::Fields;
 use std::io;
-use writer::Writing;
 
-// What the writer's number means.
-fn refusal_meaning(no: u16) -> &'static str {
-    match no {
-        2 => "there is no place, or more than 256 places, or more than 1,024 runs",
-        4 => "the place's byte is above 1",
-        5 => "the run's ends are not two of the places, the smaller one first",
-        6 => "the run has the ends of an earlier run",
-        7 => "low is above high",
+// What the writer's refusal means.
+fn meaning(refusal: Refusal) -> &'static str {
+    match refusal {
+        Refusal::WrongNumbers =>
+            "there is no place, or more than 256 places, or more than 1,024 runs",
+        Refusal::BadPlace { .. } => "the place's byte is above 1",
+        Refusal::BadRun { .. } => "the run's ends are not two of the places, the smaller one first",
+        Refusal::RepeatedRun { .. } => "the run has the ends of an earlier run",
+        Refusal::LowAboveHigh => "low is above high",
         _ => "there is no room for the form",
     }
 }
 
-fn say_refused(rt: &impl Eprint, no: u16, place: u16) -> io::Result<()> {
-    let meaning = refusal_meaning(no);
-    eprintln!(rt; "refused {no} {place}: {meaning}")
-}
-
 // Writes the form of these fields.
-fn write(rt: &(impl Print + Eprint), places: &[u8], runs: &[u8], line: Range) -> io::Result<()> {
+fn write(rt: &(impl Print + Eprint), fields: Fields) -> io::Result<()> {
     let mut form = [0u8; 5400];
-    match writer::write(places, runs, line, &mut form) {
-        Writing::Refused { number, place } => say_refused(rt, number, place),
-        Writing::Written { length } => rt.write_all(&form[..length.min(5400)]),
+    match writer::write(fields.places, fields.runs, fields.line, &mut form) {
+        Ok(length) => rt.write_all(&form[..length.min(5400)]),
+        Err(refusal) => eprintln!(rt; "{refusal}: {}", meaning(refusal)),
     }
 }
 
@@ -41,7 +37,7 @@ fn form(rt: &(impl Print + Eprint), text: &[u8]) -> io::Result<()>
     let mut places = [0u8; 257];
     let mut runs = [0u8; 5125];
     match items::gather(text, &mut places, &mut runs) {
-        Ok(fields) => write(rt, fields.places, fields.runs, fields.line),
+        Ok(fields) => write(rt, fields),
         Err(error) => eprintln!(rt; "{error}"),
     }
 }

@@ -2,19 +2,90 @@
 // lister does. With -o FILE the end form is written there first.
 #![tactic(auto)]
 
-ghost use Rattle.std.specs.Prelude.{◌≤◌, ◌<◌, length};
+ghost use Rattle.std.specs.Prelude.{◌≤◌};
 
-use answer::Answer;
+use answer::{Answer, Counts, Refusal};
+use listing::Buffers;
 use std::alloc::AllocError;
 use std::io;
 use std::io::{BufWriter, Write};
 use words::{Keying, Meaning, Nonsense};
 
-// How keying ends: the answer of the last step, and the number of that step where it is a refusal.
+// Where keying stops: at a refusal, and at which step, counted from 0, where something was to be amended.
+#[derive(Clone, Copy)]
+struct Stop {
+    refusal: Refusal,
+    step: Option<usize>,
+}
+
+// The form at hand, its length, and the buffers that it is confirmed into.
 #[derive(Drop)]
-struct End {
-    answer: Answer,
-    step: usize,
+struct Desk {
+    image: [u8; 5401],
+    got: usize,
+    lent: Buffers,
+    ghost within: { got ≤ 5401 },
+}
+
+impl Desk {
+    // Keys every amendment, or filters alone where there is none. Where that is accepted, the end form is at hand.
+    fn key(&mut self, words: &[Vec<u8>], amended: bool) -> Result<Counts, Stop> {
+        if amended {
+            return self.steps(words);
+        }
+        let answer = filter::filter(
+            &self.image[..self.got],
+            &mut self.lent.form,
+            &mut self.lent.wiring,
+            &mut self.lent.segments,
+        );
+        self.take();
+        answer.map_err(|refusal| Stop {
+            refusal,
+            step: None,
+        })
+    }
+
+    // Keys from left to right, up to a refusal.
+    fn steps(&mut self, words: &[Vec<u8>]) -> Result<Counts, Stop> {
+        let mut counts = Counts {
+            struck: 0,
+            pinned: 0,
+        };
+        let mut step = 0;
+        let mut i = 1;
+        while i < words.len() {
+            let meaning = words::said(words, i);
+            if let Some(Meaning::Amendment { kind, first, second }) = meaning {
+                counts = self.amend(kind, first, second).map_err(|refusal| Stop {
+                    refusal,
+                    step: Some(step),
+                })?;
+                self.take();
+                step += 1;
+            }
+            i = words::past(meaning, i, words.len());
+        }
+        Ok(counts)
+    }
+
+    // One step.
+    fn amend(&mut self, kind: u16, first: u16, second: u16) -> Answer {
+        amend::amend(
+            &self.image[..self.got],
+            kind,
+            first,
+            second,
+            &mut self.lent.form,
+            &mut self.lent.wiring,
+            &mut self.lent.segments,
+        )
+    }
+
+    // Takes the confirmed form to hand.
+    fn take(&mut self) {
+        layout::put(&self.lent.form, &mut self.image, 0);
+    }
 }
 
 fn main(rt: HostRuntime) -> io::Result<()> {
@@ -32,32 +103,24 @@ fn usage(rt: &impl Print, word: usize) -> io::Result<()> {
 
 // Keys the amendments to the form that is read here, and lists the end.
 fn key(rt: &HostRuntime, words: &[Vec<u8>], keying: Keying) -> io::Result<()> {
-    let Keying { amended, file } = keying;
-    let mut image = [0u8; 5401];
-    let mut form = [0u8; 5400];
-    let mut wiring = [0u8; 1024];
-    let mut segments = [0u16; 256];
-    let got = input::read_full(&mut rt.stdin(), &mut image);
-    let end = keyed(
-        words,
-        amended,
-        got,
-        &mut image,
-        &mut form,
-        &mut wiring,
-        &mut segments,
-    );
+    let mut desk = Desk {
+        image: [0; 5401],
+        got: 0,
+        lent: Buffers::new(),
+    };
+    desk.got = input::read_full(&mut rt.stdin(), &mut desk.image);
+    let end = desk.key(words, keying.amended);
     let mut out = BufWriter::new(rt.alloc(), rt.stdout())?;
-    match end.answer {
-        Answer::Refused { number, place } => {
-            listing::refused(&mut out, number, place)?;
-            if amended {
-                listing::step(&mut out, end.step)?;
+    match end {
+        Ok(counts) => {
+            if saved(rt, words, keying.file, &desk.image[..desk.got])? {
+                listing::accepted(&mut out, counts, &desk.lent)?;
             }
         }
-        Answer::Accepted { struck, pinned } => {
-            if saved(rt, words, file, &image[..got])? {
-                listing::accepted(&mut out, struck, pinned, &form, &wiring, &segments)?;
+        Err(Stop { refusal, step }) => {
+            listing::refused(&mut out, refusal.number(), refusal.place())?;
+            if let Some(step) = step {
+                listing::step(&mut out, step)?;
             }
         }
     }
@@ -78,68 +141,4 @@ fn saved(
         Some(word) => words::save(rt, word.as_slice(), form),
         None => words::save(rt, b"", form),
     }
-}
-
-// The end of keying every amendment, or of filtering alone where there is none; where it accepts, the image is the end form.
-fn keyed(
-    words: &[Vec<u8>],
-    amended: bool,
-    got: usize,
-    image: &mut [u8],
-    form: &mut [u8],
-    wiring: &mut [u8],
-    segments: &mut [u16],
-) -> End
-    requires { (got ≤ length image.old) × (length form.old ≤ length image.old) }
-{
-    if amended {
-        return steps(words, got, image, form, wiring, segments);
-    }
-    let answer = filter::filter(&image[..got], form, wiring, segments);
-    layout::put(form, image, 0);
-    End { answer, step: 0 }
-}
-
-// Keys from left to right, up to a refusal.
-fn steps(
-    words: &[Vec<u8>],
-    got: usize,
-    image: &mut [u8],
-    form: &mut [u8],
-    wiring: &mut [u8],
-    segments: &mut [u16],
-) -> End
-    requires { (got ≤ length image.old) × (length form.old ≤ length image.old) }
-{
-    let mut answer = Answer::Accepted {
-        struck: 0,
-        pinned: 0,
-    };
-    let mut step = 0;
-    let mut i = 1;
-    let count = words.len();
-    while i < count {
-        let meaning = words::said(words, i);
-        if let Some(
-            Meaning::Amendment {
-                kind,
-                first,
-                second,
-            },
-        ) = meaning
-        {
-            answer = amend::amend(&image[..got], kind, first, second, form, wiring, segments);
-            if let Answer::Refused {
-                number: _,
-                place: _,
-            } = answer
-            {
-                return End { answer, step };
-            }
-            layout::put(form, image, 0);
-            step += 1;
-        }
-        i = words::past(meaning, i, count);
-    }
-    End { answer, step }
 }

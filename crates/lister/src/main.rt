@@ -2,7 +2,7 @@
 // words the form is on standard input.
 #![tactic(auto)]
 
-use answer::Answer;
+use listing::Buffers;
 use std::io;
 use std::io::{BufWriter, Read, Write};
 
@@ -11,8 +11,8 @@ fn main(rt: HostRuntime) -> io::Result<()> {
     if words.len() < 2 {
         list(&rt, &mut rt.stdin())?;
     }
-    for i in 1..words.len() {
-        list_word(&rt, words[i].as_slice())?;
+    for word in words.iter().skip(1) {
+        list_word(&rt, word.as_slice())?;
     }
     Ok(())
 }
@@ -28,16 +28,18 @@ fn list_word(rt: &HostRuntime, word: &[u8]) -> io::Result<()> {
 // Lists the form that is read here.
 fn list<R: Read>(rt: &HostRuntime, input: &mut R) -> io::Result<()> {
     let mut space = [0u8; 5401];
-    let mut form = [0u8; 5400];
-    let mut wiring = [0u8; 1024];
-    let mut segments = [0u16; 256];
+    let mut lent = Buffers::new();
     let got = input::read_full(input, &mut space);
+    let answer = filter::filter(
+        &space[..got],
+        &mut lent.form,
+        &mut lent.wiring,
+        &mut lent.segments,
+    );
     let mut out = BufWriter::new(rt.alloc(), rt.stdout())?;
-    match filter::filter(&space[..got], &mut form, &mut wiring, &mut segments) {
-        Answer::Refused { number, place } => listing::refused(&mut out, number, place)?,
-        Answer::Accepted { struck, pinned } => {
-            listing::accepted(&mut out, struck, pinned, &form, &wiring, &segments)?;
-        }
+    match answer {
+        Ok(counts) => listing::accepted(&mut out, counts, &lent)?,
+        Err(refusal) => listing::refused(&mut out, refusal.number(), refusal.place())?,
     }
     out.flush()
 }
