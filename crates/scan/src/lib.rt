@@ -23,9 +23,7 @@ pub fn fixed(states: [u8; 1024], m: usize) -> [u8; 1024]
 {
     let mut flags = [0; 1024];
     for r in 0..m {
-        if states[r] == 2 {
-            flags[r] = 1;
-        }
+        flags[r] = u8::from(states[r] == 2);
     }
     flags
 }
