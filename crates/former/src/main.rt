@@ -4,7 +4,7 @@
 
 ghost use Rattle.std.specs.Prelude.{◌≤◌, length};
 
-use answer::Range;
+use items::Fields;
 use std::io;
 use writer::Writing;
 
@@ -26,7 +26,8 @@ fn say_refused(rt: &impl Eprint, no: u16, place: u16) -> io::Result<()> {
 }
 
 // Writes the form of these fields.
-fn write(rt: &(impl Print + Eprint), places: &[u8], runs: &[u8], line: Range) -> io::Result<()> {
+fn write(rt: &(impl Print + Eprint), fields: Fields) -> io::Result<()> {
+    let Fields { places, runs, line } = fields;
     let mut form = [0u8; 5400];
     match writer::write(places, runs, line, &mut form) {
         Writing::Refused { number, place } => say_refused(rt, number, place),
@@ -41,7 +42,7 @@ fn form(rt: &(impl Print + Eprint), text: &[u8]) -> io::Result<()>
     let mut places = [0u8; 257];
     let mut runs = [0u8; 5125];
     match items::gather(text, &mut places, &mut runs) {
-        Ok(fields) => write(rt, fields.places, fields.runs, fields.line),
+        Ok(fields) => write(rt, fields),
         Err(error) => eprintln!(rt; "{error}"),
     }
 }
