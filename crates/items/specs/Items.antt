@@ -1,5 +1,5 @@
 -- § 9.1 and § 9.3: what a line says, or which of its words is wrong.
-use Rattle.std.specs.Prelude.{ℕ, ◌+◌, true, false, List, ◌≡◌, length, get_or, codes, Result, Ok, Err}
+use Rattle.std.specs.Prelude.{ℕ, ◌+◌, true, false, List, ◌≡◌, length, slice_index, codes, Result, Ok, Err}
 use Rattle.text.specs.declared.NotANumber.{NotANumber}
 use Rattle.text.specs.declared.NotANumber.TheVariants.{NotDigits as NoDecimal, Above as TooLarge}
 use Rattle.text.specs.Numbers.{Says}
@@ -91,7 +91,7 @@ CountIn s = With (PairIn s) (CountFrom s)
 abbrev pub ItemIn : List ℕ → List ℕ → Result Item Wrong → Type 0
 ItemIn s w =
     If (length w ≡ 0) (Only (Ok Nothing))
-    (If (get_or w 0 0 ≡ 35) (Only (Ok Nothing))
+    (If (slice_index w 0 ≡ 35) (Only (Ok Nothing))
     (If (w ≡ codes "place") (Whole s 1 (Place false))
     (If (w ≡ codes "supply") (Whole s 1 (Place true))
     (If (w ≡ codes "run") (RunIn s)

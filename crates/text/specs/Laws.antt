@@ -21,7 +21,8 @@ module _ {s : List ℕ} where
   unfolding said
   saying_none = record { within = omega arith; low = λ j l. absurd (omega arith); high = λ j l. absurd (omega arith); is = refl }
 
-  pub saying_more : {k v w : ℕ} → Saying s k v → k < length s → 48 ≤ get_or s k 0 → get_or s k 0 ≤ 57 → w ≡ min 65536 (10 * v + (get_or s k 0 - 48)) → Saying s (k + 1) w
+  pub saying_more : {k v w : ℕ} → Saying s k v → k < length s → 48 ≤ get_or s k 0 → get_or s k 0 ≤ 57
+      → w ≡ min 65536 (10 * v + (get_or s k 0 - 48)) → Saying s (k + 1) w
   saying_more {k} {v} {w} g l a b e = record {
     within = omega arith;
     low = below_more (λ j. 48 ≤ get_or s j 0) k g.low a;

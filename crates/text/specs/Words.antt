@@ -1,5 +1,5 @@
 -- § 9.2: the words of a line, largest parts without blanks, counted from 0.
-use Rattle.std.specs.Prelude.{ℕ, suc, ◌-◌, ◌≤◌, ◌<◌, Bool, true, false, ◌||◌, ◌==◌, List, ◌≡◌, length, get_or, take, drop}
+use Rattle.std.specs.Prelude.{ℕ, suc, ◌-◌, ◌≤◌, ◌<◌, Bool, true, false, ◌||◌, ◌==◌, List, ◌≡◌, length, slice_index, take, drop}
 
 -- a space or a tab
 abbrev pub is_blank : ℕ → Bool
@@ -9,8 +9,8 @@ is_blank b = (b == 32) || (b == 9)
 pub record Reaches (over : Bool) (s : List ℕ) (from r : ℕ) : Type 0 where
   pub on : from ≤ r
   pub within : r ≤ length s
-  pub before : (j : ℕ) → from ≤ j → j < r → is_blank (get_or s j 0) ≡ over
-  pub found : r < length s → is_blank (get_or s r 0) ≡ over → ⊥
+  pub before : (j : ℕ) → from ≤ j → j < r → is_blank (slice_index s j) ≡ over
+  pub found : r < length s → is_blank (slice_index s r) ≡ over → ⊥
 
 -- word k starts at a; where there are fewer words, a is the line's end
 pub data Starts (s : List ℕ) : ℕ → ℕ → Type 0 where

@@ -63,7 +63,8 @@ module _ {Z : Type 0} (words : List (Vec ℕ Z)) where
   onward i file a b asked p q t =
       subst (λ (m : Option Meaning). AsksFrom words (min (i + words_in m) (length words)) true file asked) (means_one words i b a q p) t
 
-  from_one : {i : ℕ} {amended : Bool} {file : Option ℕ} {a b : Result Keying Nonsense} → AsksFrom words i amended file a → AsksFrom words i amended file b → a ≡ b
+  from_one : {i : ℕ} {amended : Bool} {file : Option ℕ} {a b : Result Keying Nonsense}
+      → AsksFrom words i amended file a → AsksFrom words i amended file b → a ≡ b
   from_one (ends l) (ends m) = refl
   from_one (ends l) (says_nothing m q) = absurd (omega arith)
   from_one (ends l) (second_file m q g) = absurd (omega arith)

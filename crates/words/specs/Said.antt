@@ -1,5 +1,6 @@
 -- What words say, from one of them on.
-use Rattle.std.specs.Prelude.{◌≡◌, ℕ, ◌+◌, ◌≤◌, ◌<◌, ◌⊎◌, List, length, codes, slice_get, IsSomeAnd, Vec, ◌≢◌, min, Bool, true, false, Option, Some, None, Result, Ok, Err}
+use Rattle.std.specs.Prelude.{◌≡◌, ◌≢◌, ℕ, ◌+◌, ◌≤◌, ◌<◌, ◌⊎◌, min, Bool, true, false, List, length, codes, slice_get, Vec}
+use Rattle.std.specs.Prelude.{Option, Some, None, IsSomeAnd, Result, Ok, Err}
 use Rattle.text.specs.Numbers.{Says}
 use Rattle.words.specs.declared.Meaning.{Meaning}
 use Rattle.words.specs.declared.Meaning.TheVariants.{Amendment, File}
@@ -53,7 +54,8 @@ module _ {Z : Type 0} (words : List (Vec ℕ Z)) where
 -- What all words ask for, read from left to right: from word i on, where so far something was amended or not, and a file was named or not.
 pub data AsksFrom {Z : Type 0} (words : List (Vec ℕ Z)) : ℕ → Bool → Option ℕ → Result Keying Nonsense → Type 0 where
   -- the words end
-  ends : {i : ℕ} {amended : Bool} {file : Option ℕ} → length words ≤ i → AsksFrom words i amended file (Ok (record { amended = amended; file = file }))
+  ends : {i : ℕ} {amended : Bool} {file : Option ℕ} → length words ≤ i
+      → AsksFrom words i amended file (Ok (record { amended = amended; file = file }))
   -- nothing is said here
   says_nothing : {i : ℕ} {amended : Bool} {file : Option ℕ} → i < length words → Means words i None
       → AsksFrom words i amended file (Err (record { word = i }))

@@ -19,7 +19,10 @@ pub loop-digit-init : goal.loop-digit-init
 loop-digit-init c = saying_none
 
 pub loop-digit-preserved : goal.loop-digit-preserved
-loop-digit-preserved c = saying_more c.loop-digit.invariant (search rules) (search rules) (search rules) (omega (arith, c.min-value.ensures, c.from.ensures))
+loop-digit-preserved c =
+    saying_more c.loop-digit.invariant (search rules) (search rules) (search rules) (omega (arith, c.min-value.ensures, c.from.ensures))
 
 pub returns : goal.returns
-returns c = in_16_bits c.try_from.result c.map_err.result (search rules) c.loop-digit.invariant (search rules) c.try_from.ensures (λ e a. search rules) c.map_err.ensures.cases
+returns c =
+    in_16_bits c.try_from.result c.map_err.result (search rules) c.loop-digit.invariant (search rules)
+    c.try_from.ensures (λ e a. search rules) c.map_err.ensures.cases

@@ -6,7 +6,8 @@ use Rattle.text.proofs.word.Goals as goal
 
 module _ {s : List ℕ} {from r : ℕ} (on : from ≤ r) (within : r ≤ length s) where
   -- the first blank from a place on
-  past_word : ((k : ℕ) → from + k < r → false ≡ is_blank (get_or s (from + k) 0)) → (r < length s → true ≡ is_blank (get_or s r 0)) → Reaches false s from r
+  past_word : ((k : ℕ) → from + k < r → false ≡ is_blank (get_or s (from + k) 0))
+      → (r < length s → true ≡ is_blank (get_or s r 0)) → Reaches false s from r
   past_word before found = record {
     on = on;
     within = within;
@@ -15,7 +16,8 @@ module _ {s : List ℕ} {from r : ℕ} (on : from ≤ r) (within : r ≤ length 
   }
 
   -- the first byte from a place on that is no blank
-  past_blanks : ((k : ℕ) → from + k < r → false ≡ not (is_blank (get_or s (from + k) 0))) → (r < length s → true ≡ not (is_blank (get_or s r 0))) → Reaches true s from r
+  past_blanks : ((k : ℕ) → from + k < r → false ≡ not (is_blank (get_or s (from + k) 0)))
+      → (r < length s → true ≡ not (is_blank (get_or s r 0))) → Reaches true s from r
   past_blanks before found = record {
     on = on;
     within = within;

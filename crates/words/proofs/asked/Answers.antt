@@ -12,7 +12,8 @@ use Rattle.words.specs.Said.AsksFrom.{ends, says_nothing, second_file, names_fil
 use Rattle.words.proofs.asked.Goals as goal
 use Rattle.words.proofs.asked.Goals.{in-Amendment, in-File-2}
 
-module _ {Z : Type 0} (words : List (Vec ℕ Z)) (i : ℕ) (there : i < length words) (said : Option Meaning) (means : Means words i said) (amended : Bool) (file : Option ℕ) where
+module _ {Z : Type 0} (words : List (Vec ℕ Z)) (i : ℕ) (there : i < length words) (said : Option Meaning) (means : Means words i said)
+    (amended : Bool) (file : Option ℕ) where
   nothing_here : said ≡ None → AsksFrom words i amended file (Err (record { word = i }))
   nothing_here is = says_nothing there (rw is at means)
 
@@ -23,7 +24,8 @@ module _ {Z : Type 0} (words : List (Vec ℕ Z)) (i : ℕ) (there : i < length w
     file_here : said ≡ Some File → file ≡ None → AsksFrom words p amended (Some (i + 1)) asked → AsksFrom words i amended file asked
     file_here is none rest = rw none (names_file there (rw is at means) (rw (past, is) at rest))
 
-    amended_here : (kind first second : ℕ) → said ≡ Some (Amendment kind first second) → AsksFrom words p true file asked → AsksFrom words i amended file asked
+    amended_here : (kind first second : ℕ) → said ≡ Some (Amendment kind first second)
+        → AsksFrom words p true file asked → AsksFrom words i amended file asked
     amended_here kind first second is rest = amends kind first second there (rw is at means) (rw (past, is) at rest)
 
 pub returns-in_err-meaning : goal.returns-in_err-meaning
@@ -45,9 +47,11 @@ loop-i-preserved c =
     let past : c.past-i.result ≡ min (c.loop-i.i + words_in c.said.result) (length c.args.words.now) = rw some c.past-i.ensures.value in
     elim c.match-meaning.branch [
       | in-Amendment w ↦
-          amended_here _ _ c.loop-i-test.true c.said.result c.said.ensures _ _ _ past asked _ _ _ (some ∙ ap Some w.in-Amendment.is) (rw (w.amended-is, w.file-is) at rest)
+          amended_here _ _ c.loop-i-test.true c.said.result c.said.ensures _ _ _ past asked _ _ _
+          (some ∙ ap Some w.in-Amendment.is) (rw (w.amended-is, w.file-is) at rest)
       | in-File-2 w ↦
-          file_here _ _ c.loop-i-test.true c.said.result c.said.ensures _ _ _ past asked (some ∙ ap Some w.in-File-2.is) (grind (arith, common_steps)) (rw (w.amended-is, w.file-is) at rest)
+          file_here _ _ c.loop-i-test.true c.said.result c.said.ensures _ _ _ past asked
+          (some ∙ ap Some w.in-File-2.is) (grind (arith, common_steps)) (rw (w.amended-is, w.file-is) at rest)
     ])
 
 pub returns : goal.returns
