@@ -5,7 +5,7 @@ use Rattle.std.proofs.Math.Decide.{dec_lt}
 use Rattle.answer.specs.declared.Counts.{Counts}
 use Rattle.answer.specs.declared.Refusal.{Refusal}
 use Rattle.answer.specs.Laws.{replied_one, settled_if, clears_front}
-use Rattle.answer.specs.Reply.{accepted}
+use Rattle.answer.specs.Reply.{accepted, told}
 use Rattle.answer.specs.Table.{Clears}
 use Rattle.filter.specs.Filtered.{Lent, Left, later_rows, restated, bit, Written, Accepted, Leaves, Filters}
 use Rattle.layout.specs.Layout.{sizes, runs_in, Fields, image, over}
@@ -40,8 +40,11 @@ pub leaves_one : (s : List ℕ) (lent : Lent) (x y : Left) → Leaves s lent x �
 leaves_one s lent x y p q =
     settled_if (λ c. let read = clears_front (read_rows sizes s) (later_rows (fields_of sizes s) lent) c in accepted_same (fields_of sizes s) (fields_sound sizes (omega arith) s read) lent) p q
 
+pub told_one : (a b : Result Counts Refusal) → told a ≡ told b → a ≡ b
+told_one = replied_one (λ x y e. e)
+
 pub filters_one : (s form wiring segments : List ℕ) (a b : Result Counts Refusal) (f w g f' w' g' : List ℕ) → Filters s form wiring segments a f w g → Filters s form wiring segments b f' w' g'
     → (a ≡ b) × (f ≡ f') × (w ≡ w') × (g ≡ g')
 filters_one s form wiring segments a b f w g f' w' g' p q =
     let e = leaves_one s (record { form = form; wiring = wiring; segments = segments }) _ _ p q in
-    (replied_one (λ x y e. e) a b (ap (λ (l : Left). l.reply) e), ap (λ (l : Left). l.lent.form) e, ap (λ (l : Left). l.lent.wiring) e, ap (λ (l : Left). l.lent.segments) e)
+    (told_one a b (ap (λ (l : Left). l.reply) e), ap (λ (l : Left). l.lent.form) e, ap (λ (l : Left). l.lent.wiring) e, ap (λ (l : Left). l.lent.segments) e)

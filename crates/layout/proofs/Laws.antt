@@ -6,7 +6,7 @@ use Rattle.answer.specs.Reply.{Reply, accepted, refused}
 use Rattle.answer.specs.declared.Refusal.{Refusal}
 use Rattle.answer.specs.Table.{whole, Settled, Clears}
 use Rattle.answer.specs.Laws.{replied_one, settled_one, passes, onward, after, ends, fact}
-use Rattle.layout.specs.Checked.{Checks}
+use Rattle.layout.specs.Checked.{told, Checks}
 use Rattle.layout.specs.Layout.{Sizes, sizes, word, part, runs_at, line_at, runs_in, Fields}
 use Rattle.layout.specs.Rows.{Listed, Numbers, Laid, Good, field_rows, sound_rows, fields_of, Heading, heading_of, read_rows}
 
@@ -114,5 +114,8 @@ module _ (z : Sizes) (sized : 0 < z.run) (f : Fields) (sound : Clears (sound_row
   counts = fact sound.0
 
 -- ---- any two replies of the check are equal
+pub told_one : (a b : Result (Unit {0}) Refusal) → told a ≡ told b → a ≡ b
+told_one = replied_one (λ x y e. e)
+
 pub checks_one : (f : Fields) (a b : Result (Unit {0}) Refusal) → Checks f a → Checks f b → a ≡ b
-checks_one f a b p q = replied_one (λ x y e. e) a b (settled_one (λ r s h k. h ∙ sym k) p q)
+checks_one f a b p q = told_one a b (settled_one (λ r s h k. h ∙ sym k) p q)

@@ -56,8 +56,11 @@ a_section {s} field v = all_clear (read_rows sizes s) v.clears (ap field (taken_
 heading_one : (f g : Form) → heading f ≡ heading g → f ≡ g
 heading_one f g e = λ i. record { places = (e i).places; runs = (e i).runs; line = record { low = (e i).low; high = (e i).high } }
 
+told_one : (a b : Result Form Refusal) → told a ≡ told b → a ≡ b
+told_one = replied_one heading_one
+
 pub reads_one : {s : List ℕ} (a b : Result Form Refusal) → Reads s a → Reads s b → a ≡ b
-reads_one a b p q = replied_one heading_one a b (settled_one (λ r s h k. h ∙ sym k) p q)
+reads_one a b p q = told_one a b (settled_one (λ r s h k. h ∙ sym k) p q)
 
 pub section_one : (field : Fields → List ℕ) {s a b : List ℕ} → Section field s a → Section field s b → a ≡ b
 section_one field p q = settled_one (λ r s h k. h ∙ sym k) p q

@@ -9,7 +9,7 @@ use Rattle.answer.specs.declared.Refusal.{Refusal}
 use Rattle.layout.specs.Layout.{sizes, line_at, runs_in, Fields, length_for, line_four_bytes, image, over, over_at}
 use Rattle.layout.proofs.Image.{head, up_to_runs, up_to_line, over_more}
 use Rattle.layout.specs.Rows.{sound_rows}
-use Rattle.writer.specs.Writing.{Left, Leaves, Writes}
+use Rattle.writer.specs.Writing.{told, Left, Leaves, Writes}
 
 -- ---- the three ways out
 pub unsound : (f : Fields) (before : List ℕ) {r : Result (Unit {0}) Refusal} {e : Refusal} → Checks f r → r ≡ Err e
@@ -54,7 +54,10 @@ module _ (f : Fields) (wholes : length f.runs ≡ 5 * runs_in sizes f.runs) wher
           ∙ over_more (head f ++ f.places) f.runs before (20 + length f.places) (up_to_runs f)
 
 -- ---- any two outcomes of a call are equal, the reply and every byte
+told_one : (a b : Result ℕ Refusal) → told a ≡ told b → a ≡ b
+told_one = replied_one (λ x y e. e)
+
 pub writes_one : (f : Fields) (before : List ℕ) (a b : Result ℕ Refusal) (x y : List ℕ) → Writes f before a x → Writes f before b y → (a ≡ b) × (x ≡ y)
 writes_one f before a b x y p q =
     let same = settled_one (λ r s h k. h ∙ sym k) p q in
-    (replied_one (λ x y e. e) a b (ap (λ (l : Left). l.reply) same), ap (λ (l : Left). l.form) same)
+    (told_one a b (ap (λ (l : Left). l.reply) same), ap (λ (l : Left). l.form) same)
