@@ -62,23 +62,26 @@ fn name(rt: &impl Env, i: usize, space: &mut [u8]) -> Option<usize>
 // Opens the file that a word names, or says on standard error why it cannot. Memory that runs out is the only error: the file is not open
 // then, and why not is not said.
 pub fn open(rt: &HostRuntime, word: &[u8]) -> Result<Option<File>, AllocError> {
-    match path(word).and_then(|path| File::open(rt, path)) {
-        Ok(file) => Ok(Some(file)),
-        Err(error) => {
-            fail(rt, word, error)?;
-            Ok(None)
-        }
-    }
+    done_or_said(rt, word, path(word).and_then(|path| File::open(rt, path)))
 }
 
 // Writes the bytes, and no others, to the file that a word names; false once it has said on standard error why it cannot. Memory that runs
 // out is the only error: the file is not written whole then, and why not is not said.
 pub fn save(rt: &HostRuntime, word: &[u8], bytes: &[u8]) -> Result<bool, AllocError> {
-    match written(rt, word, bytes) {
-        Ok(()) => Ok(true),
+    Ok(done_or_said(rt, word, written(rt, word, bytes))?.is_some())
+}
+
+// What was done with the file that a word names, or none once it is said on standard error why it could not be.
+fn done_or_said<T: Drop>(
+    rt: &HostRuntime,
+    word: &[u8],
+    done: io::Result<T>,
+) -> Result<Option<T>, AllocError> {
+    match done {
+        Ok(value) => Ok(Some(value)),
         Err(error) => {
             fail(rt, word, error)?;
-            Ok(false)
+            Ok(None)
         }
     }
 }
