@@ -1,11 +1,11 @@
 -- A verdict on numbers 9 to 11 of the paper's table, and what is known once they are passed.
-use Rattle.std.specs.Prelude.{ℕ, min, ◌≤◌, ◌<◌, List, ◌≡◌, length, get_or, Option, Result, IfOk}
+use Rattle.std.specs.Prelude.{ℕ, ◌≤◌, ◌<◌, List, ◌≡◌, length, get_or, Option, Result, IfOk}
 use Rattle.answer.specs.Reply.{accepted, refused, replied}
 use Rattle.answer.specs.Table.{Finds, Settled}
 use Rattle.answer.specs.declared.Refusal.{Refusal}
 use Rattle.confirm.specs.declared.Judged.{Judged}
 use Rattle.layout.specs.Layout.{sizes, state_of, Fields}
-use Rattle.pieces.specs.Holds.{Holds}
+use Rattle.pieces.specs.Holds.{Holds, Tells}
 use Rattle.wirings.specs.Labels.{label}
 use Rattle.wirings.specs.Limits.{fixed_runs, least, most}
 use Rattle.wirings.specs.OfForm.{order_of}
@@ -31,7 +31,7 @@ Weighs closing bare low high low' high' verdict =
 -- what judging a form's fields finds: the labels by the fixed runs, which of them hold a supply, MIN and MAX
 pub record Finding (f : Fields) (j : Judged) : Type 0 where
   pub labelled : Holds (label (order_of f) (fixed_runs (order_of f))) j.labels
-  pub supplied : Holds (λ x. min 1 (stock (length f.places) (λ y. get_or f.places y 0) (label (order_of f) (fixed_runs (order_of f))) x)) j.fed
+  pub supplied : Tells (stock (length f.places) (λ y. get_or f.places y 0) (label (order_of f) (fixed_runs (order_of f)))) j.fed
   pub lowest : j.least ≡ least (order_of f)
   pub highest : j.most ≡ most (order_of f)
 

@@ -1,6 +1,6 @@
 -- From what the piece finder found by the fixed runs and by the unstruck ones to numbers 9 to 11.
-use Rattle.std.specs.Prelude.{ℕ, min, ◌≤◌, ◌<◌, List, ◌≡◌, eqb, ltb, length, get_or, take, Option}
-use Rattle.std.proofs.Common.{sym, ap, subst, ◌∙◌, lt-ltb, le-ltb, eq-eqb, ne_eqb, eqb-true, get_or-take, arith}
+use Rattle.std.specs.Prelude.{ℕ, ◌≤◌, ◌<◌, Bool, true, List, ◌≡◌, eqb, ltb, length, get_or, take, Option}
+use Rattle.std.proofs.Common.{sym, ap, subst, ◌∙◌, lt-ltb, le-ltb, ltb-true, eq-eqb, ne_eqb, eqb-true, get_or-take, arith}
 use Rattle.std.proofs.Math.Decide.{ℕ_discrete, dec_lt}
 use Rattle.answer.specs.Laws.{finds_alike}
 use Rattle.answer.specs.Table.{Finds, Clears}
@@ -9,7 +9,7 @@ use Rattle.layout.specs.Layout.{sizes, runs_in, end_u, end_v, Fields}
 use Rattle.layout.proofs.Laws.{whole_runs, counts}
 use Rattle.layout.specs.Rows.{sound_rows}
 use Rattle.pieces.specs.Holds as holds
-use Rattle.pieces.specs.Holds.{at, Holds, labels_of, Fits}
+use Rattle.pieces.specs.Holds.{at, Holds, has, Tells, labels_of, Fits}
 use Rattle.scan.specs.Scans.{Flags}
 use Rattle.wirings.specs.Chosen.{chosen, flagged, chosen_used, used_chosen}
 use Rattle.wirings.specs.Counted.{stocked, fed_stocked, stocked_fed}
@@ -87,16 +87,16 @@ pub labels_below : (f : Fields) (L found : List ℕ) → Holds (label (order_of 
 labels_below f L found h x l = omega (arith, h.says x l, label_le (order_of f) L x)
 
 -- ---- supplies: what is known of an array of labels is known of the labels
-module _ (f : Fields) (sound : Clears (sound_rows sizes f)) (L found fed : List ℕ) (labelled : Holds (label (order_of f) L) found)
-    (supplied : Holds (λ x. min 1 (stock (length f.places) (at f.places) (at found) x)) fed) where
+module _ (f : Fields) (sound : Clears (sound_rows sizes f)) (L found : List ℕ) (fed : List Bool) (labelled : Holds (label (order_of f) L) found)
+    (supplied : Tells (stock (length f.places) (at f.places) (at found)) fed) where
   small : length f.places ≤ 256
   small = (fields_fit f sound).small
 
   below : (x : ℕ) → x < length f.places → at found x ≡ label (order_of f) L x
   below x l = labelled.says x (omega (arith, small))
 
-  pub supplied_as : Holds (λ x. min 1 (stock (length f.places) (λ y. get_or f.places y 0) (label (order_of f) L) x)) fed
-  supplied_as = record { size = supplied.size; says = λ x l. supplied.says x l ∙ ap (min 1) (stock_same (length f.places) (at f.places) (at found) (label (order_of f) L) below x) }
+  pub supplied_as : Tells (stock (length f.places) (λ y. get_or f.places y 0) (label (order_of f) L)) fed
+  supplied_as = record { size = supplied.size; says = λ x l. supplied.says x l ∙ ap (ltb 0) (stock_same (length f.places) (at f.places) (at found) (label (order_of f) L) below x) }
 
   pub counted_as : pieces (length f.places) (at found) ≡ pieces (length f.places) (label (order_of f) L)
   counted_as = pieces_same (length f.places) (at f.places) (at found) (label (order_of f) L) below
@@ -104,17 +104,17 @@ module _ (f : Fields) (sound : Clears (sound_rows sizes f)) (L found fed : List 
   pub fed_as : fed_pieces (length f.places) (at f.places) (at found) ≡ fed_pieces (length f.places) (λ y. get_or f.places y 0) (label (order_of f) L)
   fed_as = fed_same (length f.places) (at f.places) (at found) (label (order_of f) L) below
 
-  at_label : (x : ℕ) → x < length f.places → at fed (at found x) ≡ min 1 (stocked (order_of f) L x)
-  at_label x l = ap (at fed) (below x l) ∙ supplied_as.says (label (order_of f) L x) (omega (arith, label_le (order_of f) L x, small))
+  at_label : (x : ℕ) → x < length f.places → has fed (at found x) ≡ ltb 0 (stocked (order_of f) L x)
+  at_label x l = ap (has fed) (below x l) ∙ supplied_as.says (label (order_of f) L x) (omega (arith, label_le (order_of f) L x, small))
 
 -- 10: the first place whose label by the unstruck runs holds no supply is the first that these do not join with one
-pub bare_first : (f : Fields) (sound : Clears (sound_rows sizes f)) (found fed : List ℕ) → (labelled : Holds (label (order_of f) (unstruck_runs (order_of f))) found)
-    → (supplied : Holds (λ x. min 1 (stock (length f.places) (at f.places) (at found) x)) fed) → {bare : Option ℕ}
-    → Finds (λ x. 0 < at fed (at found x)) (length f.places) bare → Finds (Reached (order_of f)) (length f.places) bare
+pub bare_first : (f : Fields) (sound : Clears (sound_rows sizes f)) (found : List ℕ) (fed : List Bool) → (labelled : Holds (label (order_of f) (unstruck_runs (order_of f))) found)
+    → (supplied : Tells (stock (length f.places) (at f.places) (at found)) fed) → {bare : Option ℕ}
+    → Finds (λ x. has fed (at found x) ≡ true) (length f.places) bare → Finds (Reached (order_of f)) (length f.places) bare
 bare_first f sound found fed labelled supplied h =
     finds_alike
-    (λ x l p. fed_mono (in_unstruck (order_of f)) (stocked_fed (order_of f) (order_sound f sound).bit G x (omega (arith, at_label f sound G found fed labelled supplied x l))))
-    (λ x l p. omega (arith, at_label f sound G found fed labelled supplied x l, fed_stocked (order_of f) (order_sound f sound).bit G (fed_mono (λ r q. unstruck_in (order_of f) r q.0 q.1) p)))
+    (λ x l p. fed_mono (in_unstruck (order_of f)) (stocked_fed (order_of f) (order_sound f sound).bit G x (ltb-true 0 _ (sym (at_label f sound G found fed labelled supplied x l) ∙ p))))
+    (λ x l p. at_label f sound G found fed labelled supplied x l ∙ lt-ltb 0 _ (fed_stocked (order_of f) (order_sound f sound).bit G (fed_mono (λ r q. unstruck_in (order_of f) r q.0 q.1) p)))
     h
   where
     G : List ℕ

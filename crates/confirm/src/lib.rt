@@ -2,12 +2,12 @@
 // A function is kept out of line where its arrays are to leave the stack before others come.
 #![tactic(auto)]
 
-ghost use Rattle.std.specs.Prelude.{◌≡◌, ℕ, ◌*◌, ◌≤◌, ◌<◌, length, get_or, Ok, IfSome};
+ghost use Rattle.std.specs.Prelude.{◌≡◌, ℕ, ◌*◌, ◌≤◌, ◌<◌, true, length, get_or, Ok, IfSome};
 ghost use Rattle.answer.specs.Table.{Finds};
 ghost use Rattle.wirings.specs.Wiring.{Counts as Counted};
 ghost use Rattle.layout.specs.Layout.{sizes, runs_in};
 ghost use Rattle.layout.specs.Sound.{fields};
-ghost use Rattle.pieces.specs.Holds.{at, Ended};
+ghost use Rattle.pieces.specs.Holds.{at, has, Ended};
 ghost use Rattle.confirm.specs.Judged.{StatesOf, Weighs, Judges};
 ghost use Rattle.confirm.specs.Concluded.{Confirms};
 ghost use Rattle.confirm.specs.Marked.{Ruled};
@@ -33,7 +33,7 @@ pub struct Confirmation {
 #[derive(Drop)]
 struct Judged {
     labels: [u16; 256],
-    fed: [u8; 256],
+    fed: [bool; 256],
     least: usize,
     most: usize,
 }
@@ -51,12 +51,12 @@ fn states(runs: &[u8], m: usize) -> [u8; 1024]
 }
 
 // Number 10: the first place whose piece holds no supply.
-fn first_bare(labels: [u16; 256], fed: [u8; 256], n: usize) -> Option<usize>
+fn first_bare(labels: [u16; 256], fed: [bool; 256], n: usize) -> Option<usize>
     requires { (n ≤ 256) × ((x : ℕ) → x < 256 → at labels x < 256) }
-    ensures { Finds (λ x. 0 < at fed (at labels x)) n result }
+    ensures { Finds (λ x. has fed (at labels x) ≡ true) n result }
 {
     for x in 0..n {
-        if fed[usize::from(labels[x])] == 0 {
+        if !fed[usize::from(labels[x])] {
             return Some(x);
         }
     }
@@ -90,7 +90,7 @@ fn verdict(
 
 // The confirmed state of a run, from its state, the labels of its ends by the fixed runs and whether these hold a supply, its kind of bridge,
 // whether low is MAX, and whether high is MIN.
-fn mark(state: u8, a: u16, b: u16, fa: u8, fb: u8, kind: Kind, tight: bool, last: bool) -> u8
+fn mark(state: u8, a: u16, b: u16, fa: bool, fb: bool, kind: Kind, tight: bool, last: bool) -> u8
     ensures { Ruled state a b fa fb (kind_number kind) tight last result }
 {
     if state != 1 {
@@ -99,7 +99,7 @@ fn mark(state: u8, a: u16, b: u16, fa: u8, fb: u8, kind: Kind, tight: bool, last
     if a == b {
         return 0;
     }
-    if tight && fa == 1 && fb == 1 {
+    if tight && fa && fb {
         return 0;
     }
     match kind {

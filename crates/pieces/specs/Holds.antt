@@ -1,5 +1,5 @@
 -- What the arrays of the piece finder hold.
-use Rattle.std.specs.Prelude.{ℕ, ◌*◌, ◌≤◌, ◌<◌, List, ◌≡◌, length, get_or}
+use Rattle.std.specs.Prelude.{ℕ, ◌*◌, ◌≤◌, ◌<◌, Bool, false, ltb, List, ◌≡◌, length, get_or}
 use Rattle.std.proofs.Common.{arith}
 use Rattle.layout.specs.Layout.{sizes, end_u, end_v}
 use Rattle.wirings.specs.Chosen.{chosen, flagged}
@@ -13,6 +13,15 @@ at array x = get_or array x 0
 pub record Holds (f : ℕ → ℕ) (array : List ℕ) : Type 0 where
   pub size : length array ≡ 256
   pub says : (x : ℕ) → x < 256 → at array x ≡ f x
+
+-- an array of flags as a function of the place
+abbrev pub has : List Bool → ℕ → Bool
+has flags x = get_or flags x false
+
+-- the first 256 flags of an array tell where a function is above 0
+pub record Tells (f : ℕ → ℕ) (flags : List Bool) : Type 0 where
+  pub size : length flags ≡ 256
+  pub says : (x : ℕ) → x < 256 → has flags x ≡ ltb 0 (f x)
 
 -- the ends of the first m runs are below 256, and their records are there
 pub record Ended (runs : List ℕ) (m : ℕ) : Type 0 where

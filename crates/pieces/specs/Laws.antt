@@ -1,7 +1,7 @@
 -- Laws of what the piece finder's loops have done so far, and of what its counts give.
 use denote.Param.Members.{Mut}
 use denote.Ref.{Bor}
-use Rattle.std.specs.Prelude.{ℕ, zero, suc, min, ◌+◌, ◌≤◌, ◌<◌, eqb, Bool, true, false, cond, List, ◌≡◌, length, get_or, set, replicate, Option, Some, None}
+use Rattle.std.specs.Prelude.{ℕ, zero, suc, min, ◌+◌, ◌≤◌, ◌<◌, eqb, ltb, Bool, true, false, cond, List, ◌≡◌, length, get_or, set, replicate, Option, Some, None}
 use Rattle.std.specs.Fn.{CalledAt}
 use Rattle.std.specs.Iterator.{Drains}
 use Rattle.std.specs.declared.iter.Filter.{Filter}
@@ -9,7 +9,7 @@ use Rattle.std.specs.Iterator.Adapters.{filter_steps, filter_source, filter_call
 use Rattle.std.specs.declared.ops.Range.{Range}
 use Rattle.std.specs.List.{range_with_len, count_by, sum_by}
 use Rattle.std.specs.Option.{option_or}
-use Rattle.std.proofs.Common.{sym, subst, ◌∙◌, eq-eqb, ne_eqb, lt-ltb, le-ltb, add-one, arith}
+use Rattle.std.proofs.Common.{sym, subst, ◌∙◌, eq-eqb, ne_eqb, lt-ltb, le-ltb, ltb-true, ltb-false, add-one, arith}
 use Rattle.std.proofs.Math.Path.{refl, ap}
 use Rattle.std.proofs.Math.ListN.{length-set, length-replicate, get_or-replicate, get_or-eq_default}
 use Rattle.std.proofs.Math.Seq.{get_or-set_same, get_or-set_other}
@@ -26,7 +26,7 @@ use Rattle.wirings.specs.Chosen.{taken, chosen, flagged}
 use Rattle.wirings.specs.Labels.{moved, Moved, went, stayed, moves, labels}
 use Rattle.wirings.specs.Pieces.{stock}
 use Rattle.wirings.specs.Tally.{when, when_is, when_not, tally}
-use Rattle.pieces.specs.Holds.{at, Holds, Ended, labels_of, Opens}
+use Rattle.pieces.specs.Holds.{at, Holds, has, Tells, Ended, labels_of, Opens}
 
 -- an array of zeros has nothing else
 pub zeros : (k x : ℕ) → at (replicate k 0) x ≡ 0
@@ -35,6 +35,10 @@ zeros k x = elim (dec_lt x k) [ yes l ↦ get_or-replicate {A = ℕ} k x 0 0 l |
 -- an array holds what is the same as what it holds
 pub holds_same : {f g : ℕ → ℕ} {array : List ℕ} → Holds f array → ((x : ℕ) → x < 256 → f x ≡ g x) → Holds g array
 holds_same h e = record { size = h.size; says = λ x l. h.says x l ∙ e x l }
+
+-- and so do flags that tell one
+pub tells_same : {f g : ℕ → ℕ} {flags : List Bool} → Tells f flags → ((x : ℕ) → x < 256 → f x ≡ g x) → Tells g flags
+tells_same h e = record { size = h.size; says = λ x l. h.says x l ∙ ap (ltb 0) (e x l) }
 
 -- ---- counts: of the numbers below n, those that pass a test
 sum_more : (c : ℕ → ℕ) (n : ℕ) → sum_by c (range_with_len 0 (suc n)) ≡ sum_by c (range_with_len 0 n) + c n
@@ -55,43 +59,49 @@ count_passed {g = g} {s} {result = result} test f n ran source callee calls same
     count_from_yields_List s result ran (YieldsList-from_filter g test (YieldsList-at source (YieldsList-from_range 0 n n refl (omega arith))) callee calls)
     ∙ length-filter test (range_with_len 0 n) ∙ passed test f n same
 
--- what a test adds where two numbers are equal, and where a bit is set too
+-- what a test adds where two numbers are equal, and where a flag is set too
 pub when_eq : (p q : ℕ) → cond (eqb p q) 1 0 ≡ when p q 1
 when_eq p q = elim (ℕ_discrete p q) [ yes e ↦ rw (eq-eqb p q e) (sym (when_is p q 1 e)) | no n ↦ rw (ne_eqb p q n) (sym (when_not p q 1 n)) ]
 
-pub when_set : (p q : ℕ) {k z : ℕ} → k ≡ z → z ≤ 1 → cond (cond (eqb p q) (eqb k 1) false) 1 0 ≡ when p q z
-when_set p q {k} {z} e l = elim (ℕ_discrete p q) [
-  | yes s ↦ rw (eq-eqb p q s) (elim (ℕ_discrete k 1) [ yes i ↦ rw (eq-eqb k 1 i) (omega (arith, when_is p q z s)) | no i ↦ rw (ne_eqb k 1 i) (omega (arith, when_is p q z s)) ])
-  | no n ↦ rw (ne_eqb p q n) (sym (when_not p q z n))
+one_flag : (k : Bool) (z : ℕ) → k ≡ ltb 0 z → cond k 1 0 ≡ min 1 z
+one_flag true z e = omega (arith, ltb-true 0 z (sym e))
+one_flag false z e = omega (arith, ltb-false 0 z (sym e))
+
+pub when_set : (p q z : ℕ) {k : Bool} → k ≡ ltb 0 z → cond (cond (eqb p q) k false) 1 0 ≡ when p q (min 1 z)
+when_set p q z {k} e = elim (ℕ_discrete p q) [
+  | yes s ↦ rw (eq-eqb p q s) (one_flag k z e ∙ sym (when_is p q (min 1 z) s))
+  | no n ↦ rw (ne_eqb p q n) (sym (when_not p q (min 1 z) n))
 ]
 
 -- ---- what `supplied` has seen: the first n places
-abbrev pub Seen : (ℕ → ℕ) → (ℕ → ℕ) → List ℕ → ℕ → Type 0
-Seen supply lab fed n = Holds (λ x. min 1 (stock n supply lab x)) fed
+abbrev pub Seen : (ℕ → ℕ) → (ℕ → ℕ) → List Bool → ℕ → Type 0
+Seen supply lab fed n = Tells (stock n supply lab) fed
 
 module _ (supply lab : ℕ → ℕ) where
   stock_more : (n x : ℕ) → stock (n + 1) supply lab x ≡ when (lab n) x (supply n) + stock n supply lab x
   unfolding stock tally
   stock_more n x = ap (λ (k : ℕ). stock k supply lab x) (add-one n)
 
-  pub seen_none : Seen supply lab (replicate 256 0) 0
+  pub seen_none : Seen supply lab (replicate 256 false) 0
   unfolding stock tally
-  seen_none = record { size = length-replicate {A = ℕ} 256 0; says = λ x l. omega (arith, zeros 256 x) }
+  seen_none = record { size = length-replicate {A = Bool} 256 false; says = λ x l. get_or-replicate {A = Bool} 256 x false false l }
 
-  module _ {fed : List ℕ} {n : ℕ} (h : Seen supply lab fed n) where
+  module _ {fed : List Bool} {n : ℕ} (h : Seen supply lab fed n) where
     pub seen_pass : supply n ≡ 0 → Seen supply lab fed (n + 1)
-    seen_pass e = holds_same h (λ x l. elim (ℕ_discrete (lab n) x) [
+    seen_pass e = tells_same h (λ x l. elim (ℕ_discrete (lab n) x) [
       | yes p ↦ omega (arith, stock_more n x, when_is (lab n) x (supply n) p)
       | no p ↦ omega (arith, stock_more n x, when_not (lab n) x (supply n) p)
     ])
 
-    pub seen_supply : supply n ≡ 1 → lab n < 256 → Seen supply lab (set fed (lab n) 1) (n + 1)
+    pub seen_supply : supply n ≡ 1 → lab n < 256 → Seen supply lab (set fed (lab n) true) (n + 1)
     seen_supply e l =
         record {
-          size = length-set fed (lab n) 1 ∙ h.size;
+          size = length-set fed (lab n) true ∙ h.size;
           says = λ x k. elim (ℕ_discrete (lab n) x) [
-            | yes p ↦ omega (arith, ap (at (set fed (lab n) 1)) p, get_or-set_same fed (lab n) 1 0 (omega (arith, h.size)), stock_more n x, when_is (lab n) x (supply n) p)
-            | no p ↦ omega (arith, get_or-set_other fed (lab n) x 1 0 (λ q. p (sym q)), h.says x k, stock_more n x, when_not (lab n) x (supply n) p)
+            | yes p ↦ ap (has (set fed (lab n) true)) (sym p) ∙ get_or-set_same fed (lab n) true false (omega (arith, h.size))
+                ∙ sym (lt-ltb 0 (stock (n + 1) supply lab x) (omega (arith, stock_more n x, when_is (lab n) x (supply n) p)))
+            | no p ↦ get_or-set_other fed (lab n) x true false (λ q. p (sym q)) ∙ h.says x k
+                ∙ ap (ltb 0) (omega (arith, stock_more n x, when_not (lab n) x (supply n) p))
           ];
         }
 

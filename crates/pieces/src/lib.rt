@@ -1,11 +1,11 @@
 // Which places chosen runs join, in numbers per place: each place's label is the smallest place of its piece.
 #![tactic(auto)]
 
-ghost use Rattle.std.specs.Prelude.{◌≡◌, ℕ, ◌≤◌, ◌<◌, min, length, get_or};
+ghost use Rattle.std.specs.Prelude.{◌≡◌, ℕ, ◌≤◌, ◌<◌, length, get_or};
 ghost use Rattle.answer.specs.Table.{Finds};
 ghost use Rattle.wirings.specs.Labels.{moved};
 ghost use Rattle.wirings.specs.Pieces.{pieces, stock, fed_pieces};
-ghost use Rattle.pieces.specs.Holds.{at, Holds, Ended, labels_of, Opens};
+ghost use Rattle.pieces.specs.Holds.{at, Holds, Tells, Ended, labels_of, Opens};
 
 use layout::Run;
 use std::array;
@@ -61,16 +61,16 @@ pub fn find(runs: &[u8], flags: &[u8]) -> Found
     Found { labels, closing }
 }
 
-// For each label 1 where its piece holds a supply, else 0.
-pub fn supplied(labels: [u16; 256], places: &[u8]) -> [u8; 256]
+// For each label whether its piece holds a supply.
+pub fn supplied(labels: [u16; 256], places: &[u8]) -> [bool; 256]
     requires small { (length places.now ≤ 256) × ((x : ℕ) → x < 256 → at labels x < 256) }
     requires bits { (x : ℕ) → get_or places.now x 0 ≤ 1 }
-    ensures { Holds (λ x. min 1 (stock (length places.now) (at places.now) (at labels) x)) result }
+    ensures { Tells (stock (length places.now) (at places.now) (at labels)) result }
 {
-    let mut fed = [0; 256];
+    let mut fed = [false; 256];
     for (y, supply) in places.iter().enumerate() {
         if *supply == 1 {
-            fed[usize::from(labels[y])] = 1;
+            fed[usize::from(labels[y])] = true;
         }
     }
     fed
@@ -85,12 +85,12 @@ pub fn count(labels: [u16; 256], n: usize) -> usize
 }
 
 // How many of them hold a supply, by what `supplied` says.
-pub fn count_supplied(labels: [u16; 256], fed: [u8; 256], places: &[u8]) -> usize
+pub fn count_supplied(labels: [u16; 256], fed: [bool; 256], places: &[u8]) -> usize
     requires small { length places.now ≤ 256 }
-    requires supplied { Holds (λ x. min 1 (stock (length places.now) (at places.now) (at labels) x)) fed }
+    requires supplied { Tells (stock (length places.now) (at places.now) (at labels)) fed }
     ensures { result ≡ fed_pieces (length places.now) (at places.now) (at labels) }
 {
     (0..places.len())
-        .filter(|x| usize::from(labels[*x]) == *x && fed[*x] == 1)
+        .filter(|x| usize::from(labels[*x]) == *x && fed[*x])
         .count()
 }

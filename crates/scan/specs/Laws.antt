@@ -1,14 +1,15 @@
 -- Laws of what the scan's loops have done so far.
-use Rattle.std.specs.Prelude.{ℕ, min, ◌+◌, ◌-◌, ◌≤◌, ◌<◌, List, [], ◌∷◌, ◌≡◌, refl, eqb, length, get_or, take, set, replicate}
+use Rattle.std.specs.Int.{from_bool}
+use Rattle.std.specs.Prelude.{ℕ, min, ◌+◌, ◌-◌, ◌≤◌, ◌<◌, Bool, true, false, cond, ltb, List, [], ◌∷◌, ◌≡◌, refl, eqb, length, get_or, take, set, replicate}
 use Rattle.std.proofs.Math.Logic.{inl, inr}
-use Rattle.std.proofs.Common.{⊎_elim, sym, ap, subst, subst₂, ◌∙◌, eq-eqb, ne_eqb, lt-ltb, le-ltb, ltb-true, get_or-take, length-take-le, add-one, arith}
+use Rattle.std.proofs.Common.{⊎_elim, sym, ap, subst, subst₂, ◌∙◌, eq-eqb, ne_eqb, lt-ltb, le-ltb, ltb-true, ltb-false, get_or-take, length-take-le, add-one, arith}
 use Rattle.std.proofs.lemmas.Grind.{common_steps, get_or-set_at}
 use Rattle.std.proofs.Math.ListN.{length-set}
 use Rattle.std.proofs.Math.Seq.{get_or-set_other}
 use Rattle.std.proofs.Math.Decide.{ℕ_discrete, dec_lt}
 use Rattle.layout.specs.Layout.{sizes, end_u, end_v, Shows}
-use Rattle.pieces.specs.Holds.{at, Holds, labels_of, Fits}
-use Rattle.pieces.specs.Laws.{holds_same, zeros}
+use Rattle.pieces.specs.Holds.{at, Holds, has, Tells, labels_of, Fits}
+use Rattle.pieces.specs.Laws.{holds_same, tells_same, zeros}
 use Rattle.wirings.specs.Chosen.{chosen, flagged}
 use Rattle.wirings.specs.Counted.{stocked}
 use Rattle.wirings.specs.Labels.{In, moved, labels, label, label_le, label_root}
@@ -29,6 +30,12 @@ flags_none =
       all = λ r l. absurd (omega arith);
     }
 
+-- a join costs 1 where both pieces hold a supply
+both_fed : (k l : Bool) (x y : ℕ) → k ≡ ltb 0 x → l ≡ ltb 0 y → from_bool (cond k l false) ≡ min (min 1 x) (min 1 y)
+both_fed true true x y e f = omega (arith, ltb-true 0 x (sym e), ltb-true 0 y (sym f))
+both_fed true false x y e f = omega (arith, ltb-false 0 y (sym f))
+both_fed false l x y e f = omega (arith, ltb-false 0 x (sym e))
+
 -- ---- what `scan` has done after r runs
 abbrev pub start : Order → ℕ → Scan
 start o spare = record { taken = fixed_runs o; spare = spare }
@@ -37,19 +44,19 @@ start o spare = record { taken = fixed_runs o; spare = spare }
 abbrev pub stocks : Order → List ℕ → ℕ → ℕ
 stocks o L = stock o.n o.supply (label o L)
 
-pub record Going (o : Order) (spare : ℕ) (used labels fed : List ℕ) (left r : ℕ) : Type 0 where
+pub record Going (o : Order) (spare : ℕ) (used labels : List ℕ) (fed : List Bool) (left r : ℕ) : Type 0 where
   pub end : Scan
   pub goes : Goes o (λ j. j) (start o spare) r end
   pub rest : end.spare ≡ left
   pub holds : Holds (label o end.taken) labels
-  pub feeds : Holds (λ x. min 1 (stocks o end.taken x)) fed
+  pub feeds : Tells (stocks o end.taken) fed
   pub size : length used ≡ 1024
   pub bits : (j : ℕ) → get_or used j 0 ≤ 1
   pub only : (j : ℕ) → j < o.m → 0 < get_or used j 0 → In end.taken j
   pub all : (j : ℕ) → In end.taken j → 0 < get_or used j 0
 
 -- labels are places
-pub going_le : {o : Order} {spare : ℕ} {used labels fed : List ℕ} {left r : ℕ} → Going o spare used labels fed left r → (x : ℕ) → x < 256 → at labels x ≤ x
+pub going_le : {o : Order} {spare : ℕ} {used labels : List ℕ} {fed : List Bool} {left r : ℕ} → Going o spare used labels fed left r → (x : ℕ) → x < 256 → at labels x ≤ x
 going_le {o} g x l = omega (arith, g.holds.says x l, label_le o g.end.taken x)
 
 -- one more run taken
@@ -115,15 +122,15 @@ module _ {places runs states : List ℕ} {m : ℕ} {o : Order} (of : Of places r
     fixed_label : (x : ℕ) → labels_of runs (take m used) (length (take m used)) x ≡ label o (fixed_runs o) x
     fixed_label x = cc (fixed_chosen, of.drawn.u, of.drawn.v)
 
-    pub going_none : (spare : ℕ) {labels fed : List ℕ} → Holds (labels_of runs (take m used) (length (take m used))) labels
-        → Holds (λ x. min 1 (stock (length places) (at places) (at labels) x)) fed → Going o spare used labels fed spare 0
+    pub going_none : (spare : ℕ) {labels : List ℕ} {fed : List Bool} → Holds (labels_of runs (take m used) (length (take m used))) labels
+        → Tells (stock (length places) (at places) (at labels)) fed → Going o spare used labels fed spare 0
     going_none spare {labels} {fed} h k =
         record {
           end = start o spare;
           goes = begin;
           rest = refl;
           holds = holds;
-          feeds = holds_same k (λ x l. ap (min 1) (same x));
+          feeds = tells_same k (λ x l. same x);
           size = size;
           bits = f.bits;
           only = λ j l q. fixed_in o j l (of.marks j l ∙ (f.only j q).1);
@@ -138,7 +145,7 @@ module _ {places runs states : List ℕ} {m : ℕ} {o : Order} (of : Of places r
             stock_same (length places) (at places) (at labels) (label o (fixed_runs o)) (λ y l. holds.says y (omega (arith, of.fits.small))) x
             ∙ cc (of.drawn.n, of.drawn.supply)
 
-  module _ {spare : ℕ} {used labels fed : List ℕ} {left r : ℕ} (g : Going o spare used labels fed left r) where
+  module _ {spare : ℕ} {used labels : List ℕ} {fed : List Bool} {left r : ℕ} (g : Going o spare used labels fed left r) where
     pub going_all : r ≡ m → Scanned o spare used labels
     going_all p =
         record {
@@ -183,26 +190,29 @@ module _ {places runs states : List ℕ} {m : ℕ} {o : Order} (of : Of places r
         going_closed p = kept (looked (closed (sym at_u ∙ p ∙ at_v) refl))
 
         -- they are two pieces; the cost is 1 where both hold a supply
-        module _ {cost : ℕ} (two : a ≡ b → ⊥) (cost_is : cost ≡ min (at fed a) (at fed b)) where
+        module _ {cost : ℕ} (two : a ≡ b → ⊥) (cost_is : cost ≡ from_bool (cond (has fed a) (has fed b) false)) where
           apart : label o g.end.taken (o.u r) ≡ label o g.end.taken (o.v r) → ⊥
           apart p = two (at_u ∙ p ∙ sym at_v)
 
-          fed_u : at fed a ≡ min 1 (stocked o g.end.taken (o.u r))
-          fed_u = ap (at fed) at_u ∙ g.feeds.says _ (omega (arith, label_le o g.end.taken (o.u r), end_u_below))
+          fed_u : has fed a ≡ ltb 0 (stocked o g.end.taken (o.u r))
+          fed_u = ap (has fed) at_u ∙ g.feeds.says _ (omega (arith, label_le o g.end.taken (o.u r), end_u_below))
 
-          fed_v : at fed b ≡ min 1 (stocked o g.end.taken (o.v r))
-          fed_v = ap (at fed) at_v ∙ g.feeds.says _ (omega (arith, label_le o g.end.taken (o.v r), end_v_below))
+          fed_v : has fed b ≡ ltb 0 (stocked o g.end.taken (o.v r))
+          fed_v = ap (has fed) at_v ∙ g.feeds.says _ (omega (arith, label_le o g.end.taken (o.v r), end_v_below))
+
+          costs : cost ≡ min (min 1 (stocked o g.end.taken (o.u r))) (min 1 (stocked o g.end.taken (o.v r)))
+          costs = cost_is ∙ both_fed _ _ _ _ fed_u fed_v
 
           pub going_full : left < cost → Going o spare used labels fed left (r + 1)
           going_full k =
-              kept (looked (full apart (omega (arith, fed_u, fed_v)) (omega (arith, fed_u, fed_v)) (omega (arith, fed_u, fed_v, g.rest)) refl))
+              kept (looked (full apart (omega (arith, costs)) (omega (arith, costs)) (omega (arith, costs, g.rest)) refl))
 
           module _ (enough : cost ≤ left) where
             takes : Verdict o r g.end (taking r g.end (left - cost))
             takes = elim (dec_lt 0 cost) [
-              | yes k ↦ let p : left - cost ≡ g.end.spare - 1 = omega (arith, fed_u, fed_v, g.rest) in
-                  spends apart (omega (arith, fed_u, fed_v)) (omega (arith, fed_u, fed_v)) (omega (arith, g.rest)) (ap (taking r g.end) p)
-              | no k ↦ let p : left - cost ≡ g.end.spare = omega (arith, g.rest) in free apart (omega (arith, fed_u, fed_v)) (ap (taking r g.end) p)
+              | yes k ↦ let p : left - cost ≡ g.end.spare - 1 = omega (arith, costs, g.rest) in
+                  spends apart (omega (arith, costs)) (omega (arith, costs)) (omega (arith, g.rest)) (ap (taking r g.end) p)
+              | no k ↦ let p : left - cost ≡ g.end.spare = omega (arith, g.rest) in free apart (omega (arith, costs)) (ap (taking r g.end) p)
             ]
 
             gets : Gets a b (stocks o g.end.taken) (stocks o (r ∷ g.end.taken))
@@ -213,7 +223,7 @@ module _ {places runs states : List ℕ} {m : ℕ} {o : Order} (of : Of places r
             room : r < length used
             room = omega (arith, g.size, of.fits.few)
 
-            pub going_take : {new merged : List ℕ} → Holds (λ x. moved (at labels u) (at labels v) (at labels x)) new → Merges fed a b merged
+            pub going_take : {new : List ℕ} {merged : List Bool} → Holds (λ x. moved (at labels u) (at labels v) (at labels x)) new → Merges fed a b merged
                 → Going o spare (set used r 1) new merged (left - cost) (r + 1)
             unfolding labels
             going_take {new} {merged} h k =

@@ -1,6 +1,6 @@
 -- What the routine for the first wiring and its parts promise.
-use Rattle.std.specs.Prelude.{ℕ, min, max, ◌+◌, ◌≤◌, ◌<◌, List, ◌≡◌, get_or}
-use Rattle.pieces.specs.Holds.{Holds}
+use Rattle.std.specs.Prelude.{ℕ, min, max, ◌+◌, ◌≤◌, ◌<◌, Bool, List, ◌≡◌, get_or}
+use Rattle.pieces.specs.Holds.{Holds, Tells}
 use Rattle.wirings.specs.Chosen.{flagged}
 use Rattle.wirings.specs.Labels.{label}
 use Rattle.wirings.specs.Limits.{fixed_runs}
@@ -35,6 +35,6 @@ pub record Gets (a b : ℕ) (f g : ℕ → ℕ) : Type 0 where
   pub high : g (max a b) ≡ 0
   pub other : (x : ℕ) → (x ≡ min a b → ⊥) → (x ≡ max a b → ⊥) → g x ≡ f x
 
--- so do bytes that say which labels have any
-abbrev pub Merges : List ℕ → ℕ → ℕ → List ℕ → Type 0
-Merges fed a b after = (f g : ℕ → ℕ) → Gets a b f g → Holds (λ x. min 1 (f x)) fed → Holds (λ x. min 1 (g x)) after
+-- so do flags that tell which labels have any
+abbrev pub Merges : List Bool → ℕ → ℕ → List Bool → Type 0
+Merges fed a b after = (f g : ℕ → ℕ) → Gets a b f g → Tells f fed → Tells g after

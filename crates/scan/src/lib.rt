@@ -29,13 +29,13 @@ pub fn fixed(states: [u8; 1024], m: usize) -> [u8; 1024]
 }
 
 // Which labels hold a supply after the pieces with labels a and b are joined: the smaller label has what either had.
-fn merged(fed: [u8; 256], a: usize, b: usize) -> [u8; 256]
+fn merged(fed: [bool; 256], a: usize, b: usize) -> [bool; 256]
     requires { (a < 256) × (b < 256) × (a ≡ b → ⊥) }
     ensures { Merges fed a b result }
 {
     let mut after = fed;
-    after[a.min(b)] = fed[a].max(fed[b]);
-    after[a.max(b)] = 0;
+    after[a.min(b)] = fed[a] || fed[b];
+    after[a.max(b)] = false;
     after
 }
 
@@ -54,7 +54,7 @@ pub fn scan(places: &[u8], runs: &[u8], states: [u8; 1024], m: usize, spare: usi
             let Run { u, v, .. } = layout::run_at(runs, r);
             let a = usize::from(labels[u]);
             let b = usize::from(labels[v]);
-            let cost = usize::from(fed[a].min(fed[b]));
+            let cost = usize::from(fed[a] && fed[b]);
             if a != b && cost <= left {
                 left -= cost;
                 used[r] = 1;

@@ -1,7 +1,8 @@
-use Rattle.std.proofs.Common.{◌<◌, ◌∙◌, length, take, arith}
+use Rattle.std.specs.Int.{from_bool}
+use Rattle.std.proofs.Common.{◌<◌, ◌∙◌, ap, length, take, arith}
 use Rattle.scan.specs.Laws.{labels_of_le, going_le, Of, some_of, going_none, going_pass, going_closed, going_full, going_take, going_all}
 use Rattle.scan.proofs.scan.Goals as goal
-use Rattle.scan.proofs.scan.Goals.{After-from-b, then-states-r-eq1+then-a-b+then-cost-left, then-states-r-eq1+else-a-b, else-a-b-via-then-a-b+else-cost-left, else-a-b-via-else-a-b, else-states-r-eq1}
+use Rattle.scan.proofs.scan.Goals.{After-from-b, then-fed-a, else-fed-a, then-states-r-eq1+then-a-b+then-cost-left, then-states-r-eq1+else-a-b, else-a-b-via-then-a-b+else-cost-left, else-a-b-via-else-a-b, else-states-r-eq1}
 
 pub supplied-fed-requires-clause-small : goal.supplied-fed-requires-clause-small
 supplied-fed-requires-clause-small c = let flags = take c.args.m c.fixed-used.result in
@@ -21,7 +22,7 @@ pub bounds-fed-a : goal.bounds-fed-a
 bounds-fed-a c = (labels_small c).0
 
 pub bounds-fed-b : goal.bounds-fed-b
-bounds-fed-b c = (labels_small c).1
+bounds-fed-b c = (labels_small (goal.at.bounds-fed-b c).After-from-b).1
 
 pub merged-fed-requires : goal.merged-fed-requires
 merged-fed-requires c = let small = labels_small (goal.at.merged-fed-requires c).After-from-b in (small.0, small.1, c.if-a-b.true)
@@ -30,9 +31,19 @@ pub loop-r-preserved : goal.loop-r-preserved
 loop-r-preserved c = λ o of. let g = c.loop-r.invariant o of in let l = c.loop-r-test.true in
     elim c.if-states-r-eq1.branch [
       | then-states-r-eq1+then-a-b+then-cost-left w ↦ rw w.used-is (rw w.labels-is (rw w.fed-is (rw w.left-is
-          (going_take of g l w.if-states-r-eq1.true w.run_at-u.ensures w.from-a.ensures w.from-b.ensures w.if-a-b.true (w.from-cost.ensures ∙ w.min.ensures) w.if-cost-left.true w.join-labels.ensures w.merged-fed.ensures))))
+          (going_take of g l w.if-states-r-eq1.true w.run_at-u.ensures w.from-a.ensures w.from-b.ensures w.if-a-b.true
+          (elim w.if-fed-a.branch [
+            | then-fed-a k ↦ w.from-cost.ensures ∙ ap from_bool (rw k.if-fed-a.true k.from-is)
+            | else-fed-a k ↦ w.from-cost.ensures ∙ ap from_bool (rw k.if-fed-a.false (k.from-is ∙ k.if-fed-a.false))
+          ])
+          w.if-cost-left.true w.join-labels.ensures w.merged-fed.ensures))))
       | then-states-r-eq1+else-a-b w ↦ rw w.used-is (rw w.labels-is (rw w.fed-is (rw w.left-is (elim w.else-a-b.branch [
-        | else-a-b-via-then-a-b+else-cost-left k ↦ going_full of g l w.if-states-r-eq1.true w.run_at-u.ensures w.from-a.ensures w.from-b.ensures k.if-a-b.true (w.from-cost.ensures ∙ w.min.ensures) k.if-cost-left.false
+        | else-a-b-via-then-a-b+else-cost-left k ↦ going_full of g l w.if-states-r-eq1.true w.run_at-u.ensures w.from-a.ensures w.from-b.ensures k.if-a-b.true
+            (elim w.if-fed-a.branch [
+              | then-fed-a e ↦ w.from-cost.ensures ∙ ap from_bool (rw e.if-fed-a.true e.from-is)
+              | else-fed-a e ↦ w.from-cost.ensures ∙ ap from_bool (rw e.if-fed-a.false (e.from-is ∙ e.if-fed-a.false))
+            ])
+            k.if-cost-left.false
         | else-a-b-via-else-a-b k ↦ going_closed of g l w.if-states-r-eq1.true w.run_at-u.ensures w.from-a.ensures w.from-b.ensures k.if-a-b.false
       ]))))
       | else-states-r-eq1 w ↦ rw w.used-is (rw w.labels-is (rw w.fed-is (rw w.left-is (going_pass of g l w.if-states-r-eq1.false))))
