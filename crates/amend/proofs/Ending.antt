@@ -28,6 +28,10 @@ use Rattle.wirings.proofs.Amendments.{amended_alike}
 use Rattle.wirings.specs.OfForm.{order_of}
 use Rattle.wirings.proofs.Standing.{alike_trans}
 
+-- what is written in is not refused
+not_both : {r : Result (Unit {0}) Refusal} {e : Refusal} → r ≡ Ok tt → r ≡ Err e → ⊥
+not_both p q = not_refused (sym (ap written_as p) ∙ ap written_as q)
+
 -- the first filtering accepted
 pub record Begun (s : List ℕ) (lent : Lent) (left : Left) : Type 0 where
   pub small : Lent
@@ -97,7 +101,7 @@ module _ {s : List ℕ} {lent : Lent} {left : Left} (b : Begun s lent left) wher
           go (unnamed q n) = so q (not_named s x y z lent clears (λ h. n (subst (λ (i : ℕ). Named i x y z) (sym m) h)))
           go (reversed q h n) = so q (not_ordered s x y z lent clears (subst (λ (i : ℕ). Named i x y z) m h) n)
           go (clashing q a says well clash) = so q (clashes s x y z lent clears acc.confirmed a says well clash)
-          go (done q a says well free w) = absurd (not_refused (sym (ap written_as q) ∙ ap written_as e))
+          go (done q a says well free w) = absurd (not_both q e)
 
       module _ (ok : r ≡ Ok tt) where
         -- it is written in
@@ -105,9 +109,9 @@ module _ {s : List ℕ} {lent : Lent} {left : Left} (b : Begun s lent left) wher
         wrote = go on_g
           where
             go : WritesIn g x y z t r → (a : Amendment) × Says x y z a × WellFormed (order_of g) a × (Clash (order_of g) a → ⊥) × (t ≡ image sizes (written a g))
-            go (unnamed q n) = absurd (not_refused (sym (ap written_as ok) ∙ ap written_as q))
-            go (reversed q h n) = absurd (not_refused (sym (ap written_as ok) ∙ ap written_as q))
-            go (clashing q a says well clash) = absurd (not_refused (sym (ap written_as ok) ∙ ap written_as q))
+            go (unnamed q n) = absurd (not_both ok q)
+            go (reversed q h n) = absurd (not_both ok q)
+            go (clashing q a says well clash) = absurd (not_both ok q)
             go (done q a says well free f) = (a, says, well, free, f)
 
         written_long : length t ≡ length s

@@ -42,22 +42,20 @@ fn write_in(form: &mut [u8], kind: u16, first: u16, second: u16) -> Result<(), R
     ensures { WritesIn (fields_of sizes form.old) kind first second form.new result }
 {
     let Form { places, runs, line } = reader::read(form)?;
+    let runs_at = CONTENTS + places;
+    let line_at = runs_at + RUN * runs;
     let run = usize::from(first);
-    let at = CONTENTS + places + RUN * run + 4;
+    let state_at = runs_at + RUN * run + 4;
     match (kind, second) {
-        (1, 0) if run < runs => mark(form, at, 0, 2),
-        (2, 0) if run < runs => mark(form, at, 2, 0),
+        (1, 0) if run < runs => mark(form, state_at, 0, 2),
+        (2, 0) if run < runs => mark(form, state_at, 2, 0),
         (3, _) if second < first => Err(Refusal::NarrowedToNone),
         (3, _) => {
             let by = Range {
                 low: first,
                 high: second,
             };
-            layout::put(
-                &layout::line_four(line.narrowed(by)),
-                form,
-                CONTENTS + places + RUN * runs,
-            );
+            layout::put(&layout::line_four(line.narrowed(by)), form, line_at);
             Ok(())
         }
         _ => Err(Refusal::NoAmendment),
