@@ -11,7 +11,8 @@ use Rattle.amend.specs.Fields.{written_places, written_ends, written_alike, writ
 use Rattle.amend.specs.Keying.{SettledForm, Call, Accepts, last, before}
 use Rattle.amend.proofs.Settling.{says_one, well_formed}
 use Rattle.answer.specs.Laws.{not_refused, cleared, clears_back, fact}
-use Rattle.answer.specs.Reply.{accepted, Counts}
+use Rattle.answer.specs.declared.Counts.{Counts}
+use Rattle.answer.specs.Reply.{accepted}
 use Rattle.answer.specs.Table.{Clears}
 use Rattle.filter.specs.Filtered.{Lent, Left, Accepted, restated, confirmed_fields, bit, Written, filter_rows}
 use Rattle.filter.specs.Laws.{length_restated}

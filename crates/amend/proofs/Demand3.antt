@@ -7,7 +7,8 @@ use Rattle.amend.specs.Fields.{written_wholes, written_places, written_ends, wri
 use Rattle.amend.specs.Keying.{SettledForm, Call, Amender, AllOf, Accepts, last, before, MeetsRefusal, here, later, written_all}
 use Rattle.amend.proofs.Settling.{room_as, well_named, well_ordered}
 use Rattle.answer.specs.Laws.{not_refused, cleared, settled_last, clears_join, clear}
-use Rattle.answer.specs.Reply.{Reply, accepted, refused, Counts}
+use Rattle.answer.specs.declared.Counts.{Counts}
+use Rattle.answer.specs.Reply.{Reply, accepted, refused}
 use Rattle.answer.specs.Table.{Clears}
 use Rattle.filter.specs.Demand2.{lawful_clears, lawful_confirmed}
 use Rattle.filter.specs.Filtered.{Lent, Left, Room, Accepted, bit, Written, later_rows, filter_rows}

@@ -1,13 +1,14 @@
 -- Any two outcomes that the contract of an amendment allows are equal.
-use Rattle.std.specs.Prelude.{ℕ, List, ◌≡◌}
+use Rattle.std.specs.Prelude.{ℕ, List, ◌≡◌, Result}
 use Rattle.std.proofs.Common.{ap, subst, arith}
 use Rattle.amend.specs.Amending.{Named, Ordered, written, Amended, amend_rows, Leaves, Amends}
 use Rattle.amend.proofs.Settling.{says_one, well_formed}
 use Rattle.amend.specs.Fields.{written_sound}
-use Rattle.answer.specs.declared.Answer.{Answer}
-use Rattle.answer.specs.Laws.{settled_if, clears_front, fact, clears_back}
+use Rattle.answer.specs.declared.Counts.{Counts}
+use Rattle.answer.specs.declared.Refusal.{Refusal}
+use Rattle.answer.specs.Laws.{replied_one, settled_if, clears_front, fact, clears_back}
 use Rattle.answer.specs.Table.{Clears}
-use Rattle.filter.specs.One.{restated_same, accepted_same, told_one}
+use Rattle.filter.specs.One.{restated_same, accepted_same}
 use Rattle.filter.specs.Filtered.{Lent, Left, Accepted, confirmed_fields, later_rows, filter_rows}
 use Rattle.filter.specs.Restated.{still_sound, same_wirings}
 use Rattle.layout.specs.Layout.{sizes, runs_in, Fields}
@@ -37,11 +38,11 @@ leaves_one s x y z lent p q a b =
     settled_if (λ c. let (named, later) = clears_back (filter_rows s lent) (amend_rows (fields_of sizes s) x y z) c in
     amended_same (fields_of sizes s) (fields_sound sizes (omega arith) s (clears_front (read_rows sizes s) (later_rows (fields_of sizes s) lent) (clears_front (filter_rows s lent) (amend_rows (fields_of sizes s) x y z) c))) x y z lent (fact named) (fact later.0)) a b
 
-pub amends_one : (s : List ℕ) (x y z : ℕ) (form wiring segments : List ℕ) (a b : Answer) (f w g f' w' g' : List ℕ)
+pub amends_one : (s : List ℕ) (x y z : ℕ) (form wiring segments : List ℕ) (a b : Result Counts Refusal) (f w g f' w' g' : List ℕ)
     → Amends s x y z form wiring segments a f w g → Amends s x y z form wiring segments b f' w' g' → (a ≡ b) × (f ≡ f') × (w ≡ w') × (g ≡ g')
 amends_one s x y z form wiring segments a b f w g f' w' g' p q =
     let e = leaves_one s x y z (record { form = form; wiring = wiring; segments = segments }) _ _ p q in (
-      told_one a b (ap (λ (l : Left). l.reply) e),
+      replied_one (λ x y e. e) a b (ap (λ (l : Left). l.reply) e),
       ap (λ (l : Left). l.lent.form) e,
       ap (λ (l : Left). l.lent.wiring) e,
       ap (λ (l : Left). l.lent.segments) e,

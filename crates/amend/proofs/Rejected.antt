@@ -5,7 +5,8 @@ use Rattle.amend.specs.Amending.{written, Leaves}
 use Rattle.amend.specs.Fields.{written_states}
 use Rattle.amend.proofs.Laws.{leaves_one}
 use Rattle.answer.specs.Laws.{accepted_one}
-use Rattle.answer.specs.Reply.{accepted, Counts}
+use Rattle.answer.specs.declared.Counts.{Counts}
+use Rattle.answer.specs.Reply.{accepted}
 use Rattle.filter.specs.Filtered.{Lent, Left}
 use Rattle.layout.specs.Layout.{sizes, runs_in, Fields}
 use Rattle.wirings.proofs.Amended.{put_here}

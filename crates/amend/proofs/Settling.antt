@@ -4,7 +4,8 @@ use Rattle.std.proofs.Common.{sym, ap, subst, ◌∙◌, arith}
 use Rattle.amend.specs.Amending.{Says, pins, strikes, narrows, Run, Named, Ordered, Obeyed, amend_rows, written, Amended, Leaves}
 use Rattle.amend.specs.Fields.{written_alike, written_states, written_low, written_high, written_sound, written_wholes}
 use Rattle.answer.specs.Laws.{not_refused, cleared, clears_front, clears_back, onward, refuses, passes, ends, later, refusal_of, settled_as, fact}
-use Rattle.answer.specs.Reply.{Reply, accepted, refused, Counts}
+use Rattle.answer.specs.declared.Counts.{Counts}
+use Rattle.answer.specs.Reply.{Reply, accepted, refused}
 use Rattle.answer.specs.Table.{Clears, Settled}
 use Rattle.filter.specs.Demand2.{lawful_confirmed}
 use Rattle.filter.specs.Filtered.{Lent, Left, Room, Accepted, confirmed_fields, later_rows, filter_rows}

@@ -1,6 +1,8 @@
 -- What an amendment promises: the form is filtered, the amendment written in, and the result filtered again.
-use Rattle.std.specs.Prelude.{ℕ, min, max, ◌+◌, ◌*◌, ◌≤◌, ◌<◌, List, [], ◌∷◌, ◌++◌, ◌≡◌, get_or, set}
-use Rattle.answer.specs.declared.Answer.{Answer}
+use Rattle.std.specs.Prelude.{ℕ, min, max, ◌+◌, ◌*◌, ◌≤◌, ◌<◌, List, [], ◌∷◌, ◌++◌, ◌≡◌, get_or, set, Result, Ok, Err}
+use Rattle.answer.specs.declared.Counts.{Counts}
+use Rattle.answer.specs.declared.Refusal.{Refusal}
+use Rattle.answer.specs.declared.Refusal.TheVariants.{NoAmendment, NarrowedToNone, NoWiring}
 use Rattle.answer.specs.Reply.{refused, told}
 use Rattle.answer.specs.Table.{Row, whole, Settled}
 use Rattle.filter.specs.Filtered.{Lent, Left, Accepted, confirmed_fields, filter_rows}
@@ -63,19 +65,19 @@ abbrev pub Leaves : List ℕ → ℕ → ℕ → ℕ → Lent → Left → Type 
 Leaves s x y z lent =
     Settled (λ number k. record { reply = refused number k; lent = lent }) (filter_rows s lent ++ amend_rows (fields_of sizes s) x y z) (Amended (fields_of sizes s) x y z lent)
 
-abbrev pub Amends : List ℕ → ℕ → ℕ → ℕ → List ℕ → List ℕ → List ℕ → Answer → List ℕ → List ℕ → List ℕ → Type 0
+abbrev pub Amends : List ℕ → ℕ → ℕ → ℕ → List ℕ → List ℕ → List ℕ → Result Counts Refusal → List ℕ → List ℕ → List ℕ → Type 0
 Amends s x y z form wiring segments r form' wiring' segments' =
     Leaves s x y z (record { form = form; wiring = wiring; segments = segments })
     (record { reply = told r; lent = record { form = form'; wiring = wiring'; segments = segments' } })
 
--- ---- what writing an amendment into a confirmed form gives: the number that refuses it, or 0 and the form with it
-pub data WritesIn (g : Fields) (x y z : ℕ) (s : List ℕ) (r : ℕ) : Type 0 where
-  unnamed : r ≡ 12 → (Named (runs_in sizes g.runs) x y z → ⊥) → WritesIn g x y z s r
-  reversed : r ≡ 13 → Named (runs_in sizes g.runs) x y z → (Ordered x y z → ⊥) → WritesIn g x y z s r
-  clashing : r ≡ 14 → (a : Amendment) → Says x y z a → WellFormed (order_of g) a → Clash (order_of g) a → WritesIn g x y z s r
-  done : r ≡ 0 → (a : Amendment) → Says x y z a → WellFormed (order_of g) a → (Clash (order_of g) a → ⊥) → s ≡ image sizes (written a g) → WritesIn g x y z s r
+-- ---- what writing an amendment into a confirmed form gives: the refusal, or the form with it
+pub data WritesIn (g : Fields) (x y z : ℕ) (s : List ℕ) (r : Result (Unit {0}) Refusal) : Type 0 where
+  unnamed : r ≡ Err NoAmendment → (Named (runs_in sizes g.runs) x y z → ⊥) → WritesIn g x y z s r
+  reversed : r ≡ Err NarrowedToNone → Named (runs_in sizes g.runs) x y z → (Ordered x y z → ⊥) → WritesIn g x y z s r
+  clashing : r ≡ Err NoWiring → (a : Amendment) → Says x y z a → WellFormed (order_of g) a → Clash (order_of g) a → WritesIn g x y z s r
+  done : r ≡ Ok tt → (a : Amendment) → Says x y z a → WellFormed (order_of g) a → (Clash (order_of g) a → ⊥) → s ≡ image sizes (written a g) → WritesIn g x y z s r
 
 -- a state is written, unless the other one stands there
-pub data Marks (s : List ℕ) (at other state : ℕ) (s' : List ℕ) (r : ℕ) : Type 0 where
-  stood : r ≡ 14 → get_or s at 0 ≡ other → Marks s at other state s' r
-  put : r ≡ 0 → (get_or s at 0 ≡ other → ⊥) → s' ≡ set s at state → Marks s at other state s' r
+pub data Marks (s : List ℕ) (at other state : ℕ) (s' : List ℕ) (r : Result (Unit {0}) Refusal) : Type 0 where
+  stood : r ≡ Err NoWiring → get_or s at 0 ≡ other → Marks s at other state s' r
+  put : r ≡ Ok tt → (get_or s at 0 ≡ other → ⊥) → s' ≡ set s at state → Marks s at other state s' r

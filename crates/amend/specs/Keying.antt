@@ -1,7 +1,8 @@
 -- What keying a list of amendments is: calls of `amend`, each to the form that the call before it left.
 use Rattle.std.specs.Prelude.{ℕ, List, [], ◌∷◌, ◌≡◌, length, take}
 use Rattle.amend.specs.Amending.{written, Leaves}
-use Rattle.answer.specs.Reply.{accepted, refused, Counts}
+use Rattle.answer.specs.declared.Counts.{Counts}
+use Rattle.answer.specs.Reply.{accepted, refused}
 use Rattle.answer.specs.Table.{Clears}
 use Rattle.filter.specs.Filtered.{Lent, Left, Room}
 use Rattle.layout.specs.Layout.{sizes, Fields}

@@ -1,16 +1,17 @@
 -- An amendment written into a form on file, byte by byte.
-use Rattle.std.specs.Prelude.{ℕ, zero, suc, min, max, ◌+◌, ◌*◌, ◌/◌, ◌≤◌, ◌<◌, List, [], ◌∷◌, ◌++◌, ◌≡◌, refl, length, get_or, set}
+use Rattle.std.specs.Prelude.{ℕ, zero, suc, min, max, ◌+◌, ◌*◌, ◌/◌, ◌≤◌, ◌<◌, List, [], ◌∷◌, ◌++◌, ◌≡◌, refl, length, get_or, set, Result, Ok, Err}
 use Rattle.std.proofs.Common.{sym, ap, ap₂, subst, ◌∙◌, length-set, drop_of_length-le, take_at, get_or-take, get_or-append-add, arith}
 use Rattle.std.proofs.lemmas.List.{set-append_left}
 use Rattle.amend.specs.Amending.{Says, pins, strikes, narrows, Run, Marks, stood, put, WritesIn, unnamed, reversed, clashing, done}
 use Rattle.answer.specs.Laws.{not_refused, settled_last}
+use Rattle.answer.specs.declared.Refusal.{Refusal}
+use Rattle.answer.specs.declared.Refusal.TheVariants.{NoAmendment, NarrowedToNone}
 use Rattle.answer.specs.Table.{Clears}
 use Rattle.layout.proofs.Image.{head, up_to_runs, up_to_line, length_image, n_is, m_is, fields_back, read_back}
 use Rattle.layout.specs.Layout.{sizes, word, runs_at, line_at, runs_in, state_of, Fields, contents, line_four_bytes, image, over_at}
 use Rattle.layout.proofs.Laws.{whole_runs}
 use Rattle.layout.specs.Rows.{fields_of, read_rows, sound_rows}
-use Rattle.reader.specs.declared.Reading.{Reading}
-use Rattle.reader.specs.declared.Reading.TheVariants.{Refused}
+use Rattle.reader.specs.declared.Form.{Form}
 use Rattle.reader.specs.Laws.{Valid}
 use Rattle.reader.specs.Reading.{told, Reads}
 use Rattle.wirings.specs.Amendments.{Amendment, pin, strike, narrow}
@@ -62,7 +63,7 @@ module _ {s : List ℕ} (on : OnFile s) where
   clears : Clears (read_rows sizes s)
   clears = subst (λ (t : List ℕ). Clears (read_rows sizes t)) (sym on.is) (read_back (fields_of sizes s) on.sound)
 
-  pub always_read : {r : Reading} {i j : ℕ} → Reads s r → r ≡ Refused i j → ⊥
+  pub always_read : {r : Result Form Refusal} {e : Refusal} → Reads s r → r ≡ Err e → ⊥
   always_read p e = not_refused (sym (settled_last clears p) ∙ ap told e)
 
   module _ {n m low high : ℕ} (v : Valid s n m low high) where
@@ -88,20 +89,20 @@ module _ {s : List ℕ} (on : OnFile s) where
       puts : (x : ℕ) {t : List ℕ} → t ≡ set s k x → t ≡ image sizes (record { places = (fields_of sizes s).places; runs = set (fields_of sizes s).runs (5 * r + 4) x; low = (fields_of sizes s).low; high = (fields_of sizes s).high })
       puts x q = q ∙ ap (λ (t : List ℕ). set t k x) on.is ∙ state_put (fields_of sizes s) on.sound r k x run place
 
-      pub pinned : {x z i : ℕ} {t : List ℕ} → x ≡ 1 → z ≡ 0 → Marks s k 0 2 t i → WritesIn (fields_of sizes s) x r z t i
+      pub pinned : {x z : ℕ} {t : List ℕ} {i : Result (Unit {0}) Refusal} → x ≡ 1 → z ≡ 0 → Marks s k 0 2 t i → WritesIn (fields_of sizes s) x r z t i
       pinned a b (stood q h) = clashing q (pin r) (pins a b) run (sym stands ∙ h)
       pinned a b (put q n h) = done q (pin r) (pins a b) run (λ c. n (stands ∙ c)) (puts 2 h)
 
-      pub struck : {x z i : ℕ} {t : List ℕ} → x ≡ 2 → z ≡ 0 → Marks s k 2 0 t i → WritesIn (fields_of sizes s) x r z t i
+      pub struck : {x z : ℕ} {t : List ℕ} {i : Result (Unit {0}) Refusal} → x ≡ 2 → z ≡ 0 → Marks s k 2 0 t i → WritesIn (fields_of sizes s) x r z t i
       struck a b (stood q h) = clashing q (strike r) (strikes a b) run (sym stands ∙ h)
       struck a b (put q n h) = done q (strike r) (strikes a b) run (λ c. n (stands ∙ c)) (puts 0 h)
 
-    pub narrowed : {x y z : ℕ} {t : List ℕ} (k : ℕ) → k ≡ 20 + n + 5 * m → x ≡ 3 → y ≤ z → t ≡ over_at k (line_four_bytes (max low y) (min high z)) s → WritesIn (fields_of sizes s) x y z t 0
+    pub narrowed : {x y z : ℕ} {t : List ℕ} (k : ℕ) → k ≡ 20 + n + 5 * m → x ≡ 3 → y ≤ z → t ≡ over_at k (line_four_bytes (max low y) (min high z)) s → WritesIn (fields_of sizes s) x y z t (Ok tt)
     narrowed {x} {y} {z} k e a l q = done refl (narrow y z) (narrows a) l (λ c. c)
         (q ∙ ap (over_at k (line_four_bytes (max low y) (min high z))) on.is ∙ line_put (fields_of sizes s) on.sound k (max low y) (min high z) (at_line k e)
         ∙ ap₂ (λ (a b : ℕ). image sizes (record { places = (fields_of sizes s).places; runs = (fields_of sizes s).runs; low = max a y; high = min b z })) v.from v.to)
 
-    pub no_such : {x y z : ℕ} {t : List ℕ} → (x ≡ 1 → z ≡ 0 → y < m → ⊥) → (x ≡ 2 → z ≡ 0 → y < m → ⊥) → (x ≡ 3 → ⊥) → WritesIn (fields_of sizes s) x y z t 12
+    pub no_such : {x y z : ℕ} {t : List ℕ} → (x ≡ 1 → z ≡ 0 → y < m → ⊥) → (x ≡ 2 → z ≡ 0 → y < m → ⊥) → (x ≡ 3 → ⊥) → WritesIn (fields_of sizes s) x y z t (Err NoAmendment)
     no_such {x} {y} {z} p q r = unnamed refl (λ (a, h, l). go h l)
       where
         go : {a : Amendment} → Says x y z a → Run (runs_in sizes (fields_of sizes s).runs) a → ⊥
@@ -109,5 +110,5 @@ module _ {s : List ℕ} (on : OnFile s) where
         go (strikes e f) l = q e f (omega (arith, m_here))
         go (narrows e) l = r e
 
-  pub turned_round : {x y z : ℕ} {t : List ℕ} → x ≡ 3 → z < y → WritesIn (fields_of sizes s) x y z t 13
+  pub turned_round : {x y z : ℕ} {t : List ℕ} → x ≡ 3 → z < y → WritesIn (fields_of sizes s) x y z t (Err NarrowedToNone)
   turned_round {y = y} {z} e l = reversed refl (narrow y z, narrows e, tt) (λ h. omega (arith, h e))

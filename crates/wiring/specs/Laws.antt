@@ -1,17 +1,15 @@
 -- Any two outcomes that the library for C allows are equal, and its reply tells the answer.
-use Rattle.std.specs.Prelude.{ℕ, min, ◌≤◌, List, [], ◌∷◌, ◌++◌, ◌≡◌}
-use Rattle.std.proofs.Common.{inl, inr, sym, ap, ◌∙◌, arith}
-use Rattle.amend.specs.Amending.{written, Amended, amend_rows, Amends}
+use Rattle.std.specs.Prelude.{ℕ, List, ◌≡◌, Result, Ok, Err}
+use Rattle.std.proofs.Common.{sym, ap, ◌∙◌, arith}
+use Rattle.amend.specs.Amending.{Amends}
 use Rattle.amend.proofs.Laws.{amends_one}
-use Rattle.answer.specs.declared.Answer.{Answer}
-use Rattle.answer.specs.declared.Answer.TheVariants.{Accepted as Yes, Refused as No}
-use Rattle.answer.specs.Laws.{not_refused}
-use Rattle.answer.specs.Reply.{Reply as PaperReply, refused, told}
-use Rattle.answer.specs.Table.{Row, Outcome}
+use Rattle.answer.specs.declared.Counts.{Counts}
+use Rattle.answer.specs.declared.Refusal.{Refusal}
+use Rattle.answer.specs.declared.Refusal.TheVariants.{NoContents, WrongNumbers, WrongLayout, BadPlace, BadRun, RepeatedRun, LowAboveHigh, NoRoom, FixedLoop, NoSupply, NoSuchCount, NoAmendment, NarrowedToNone, NoWiring}
+use Rattle.answer.specs.Laws.{refusal_one}
+use Rattle.answer.specs.Reply.{number_of}
 use Rattle.filter.specs.One.{filters_one}
-use Rattle.filter.specs.Filtered.{Lent, Left, Accepted, confirmed_fields, filter_rows, Filters}
-use Rattle.layout.specs.Layout.{sizes, Fields}
-use Rattle.layout.specs.Rows.{fields_of}
+use Rattle.filter.specs.Filtered.{Filters}
 use Rattle.wiring.specs.declared.Reply.{Reply}
 use Rattle.wiring.specs.Encoding.{encoded, FilterReplies, AmendReplies}
 
@@ -29,42 +27,39 @@ amend_replies_one s x y z form wiring segments a b f w g f' w' g' p q =
     (p.reply ∙ ap encoded e.0 ∙ sym q.reply, e.1, e.2, e.3)
 
 -- ---- the reply tells the answer: a refusal's number is never 0
--- the least number of a table, or 1
-abbrev least : List Row → ℕ
-least [] = 1
-least (row ∷ rows) = min row.number (least rows)
-
-refused_number : {A : Type 0} {i j n k : ℕ} → ◌≡◌ {A = PaperReply A} (refused i j) (refused n k) → i ≡ n
-refused_number e = cc
-
--- a table with numbers from 1 on refuses with none that is 0
-module _ (lent : Lent) (K : Left → Type 0) (last : (left : Left) → K left → (k : ℕ) → left.reply ≡ refused 0 k → ⊥) (left : Left) (k : ℕ) (e : left.reply ≡ refused 0 k) where
-  never_0 : (rows : List Row) → 1 ≤ least rows → Outcome (λ number j. record { reply = refused number j; lent = lent }) rows K left → ⊥
-  never_0 [] l p = last left p k e
-  never_0 (row ∷ rows) l (inl (j, f, g)) = let z : row.number ≡ 0 = refused_number (sym (ap (λ (x : Left). x.reply) g) ∙ e) in omega arith
-  never_0 (row ∷ rows) l (inr (c, p)) = never_0 rows (omega arith) p
-
--- an acceptance is no refusal
-accepted_last : (f : Fields) (lent : Lent) (left : Left) → Accepted f lent left → (k : ℕ) → left.reply ≡ refused 0 k → ⊥
-accepted_last f lent left a k e = not_refused (sym a.reply ∙ e)
+never_0 : (e : Refusal) → number_of e ≡ 0 → ⊥
+never_0 NoContents z = omega arith
+never_0 WrongNumbers z = omega arith
+never_0 WrongLayout z = omega arith
+never_0 (BadPlace k) z = omega arith
+never_0 (BadRun k) z = omega arith
+never_0 (RepeatedRun k) z = omega arith
+never_0 LowAboveHigh z = omega arith
+never_0 NoRoom z = omega arith
+never_0 (FixedLoop k) z = omega arith
+never_0 (NoSupply k) z = omega arith
+never_0 NoSuchCount z = omega arith
+never_0 NoAmendment z = omega arith
+never_0 NarrowedToNone z = omega arith
+never_0 NoWiring z = omega arith
 
 -- an answer whose number, where it is a refusal, is not 0
-abbrev pub Numbered : Answer → Type 0
-Numbered a = (k : ℕ) → a ≡ No 0 k → ⊥
+abbrev pub Numbered : Result Counts Refusal → Type 0
+Numbered a = (e : Refusal) → a ≡ Err e → number_of e ≡ 0 → ⊥
 
-pub filter_numbered : (s form wiring segments : List ℕ) (a : Answer) (f w g : List ℕ) → Filters s form wiring segments a f w g → Numbered a
-filter_numbered s form wiring segments a f w g p k e =
-    let lent : Lent = record { form = form; wiring = wiring; segments = segments } in
-    never_0 lent (Accepted (fields_of sizes s) lent) (accepted_last (fields_of sizes s) lent) (record { reply = told a; lent = record { form = f; wiring = w; segments = g } }) k (ap told e) (filter_rows s lent) (omega arith) p.outcome
+-- each answer is one
+pub numbered : (a : Result Counts Refusal) → Numbered a
+numbered a e is = never_0 e
 
-pub amend_numbered : (s : List ℕ) (x y z : ℕ) (form wiring segments : List ℕ) (a : Answer) (f w g : List ℕ) → Amends s x y z form wiring segments a f w g → Numbered a
-amend_numbered s x y z form wiring segments a f w g p k e =
-    let lent : Lent = record { form = form; wiring = wiring; segments = segments } in
-    never_0 lent (Amended (fields_of sizes s) x y z lent) (λ left h. accepted_last (written h.amendment (confirmed_fields (fields_of sizes s) h.state h.low h.high)) lent left h.last) (record { reply = told a; lent = record { form = f; wiring = w; segments = g } }) k (ap told e) (filter_rows s lent ++ amend_rows (fields_of sizes s) x y z) (omega arith) p.outcome
+pub filter_numbered : (s form wiring segments : List ℕ) (a : Result Counts Refusal) (f w g : List ℕ) → Filters s form wiring segments a f w g → Numbered a
+filter_numbered s form wiring segments a f w g p = numbered a
 
--- two such answers with the same encoding are the same
-pub encoded_one : (a b : Answer) → Numbered a → Numbered b → encoded a ≡ encoded b → a ≡ b
-encoded_one (Yes s p) (Yes s' p') n n' e = λ i. Yes (e i).struck (e i).pinned
-encoded_one (Yes s p) (No i j) n n' e = absurd (n' j (λ t. No (sym e t).number j))
-encoded_one (No i j) (Yes s p) n n' e = absurd (n j (λ t. No (e t).number j))
-encoded_one (No i j) (No i' j') n n' e = λ t. No (e t).number (e t).place
+pub amend_numbered : (s : List ℕ) (x y z : ℕ) (form wiring segments : List ℕ) (a : Result Counts Refusal) (f w g : List ℕ) → Amends s x y z form wiring segments a f w g → Numbered a
+amend_numbered s x y z form wiring segments a f w g p = numbered a
+
+-- two answers with the same encoding are the same
+pub encoded_one : (a b : Result Counts Refusal) → encoded a ≡ encoded b → a ≡ b
+encoded_one (Ok k) (Ok k') e = λ i. Ok (record { struck = (e i).struck; pinned = (e i).pinned })
+encoded_one (Ok k) (Err f) e = absurd (never_0 f (λ i. (sym e i).number))
+encoded_one (Err f) (Ok k) e = absurd (never_0 f (λ i. (e i).number))
+encoded_one (Err f) (Err g) e = ap Err (refusal_one f g (λ i. (e i).number) (λ i. (e i).place))

@@ -4,16 +4,37 @@
 ghost use Rattle.std.specs.Prelude.{◌≡◌};
 ghost use Rattle.wiring.specs.Encoding.{encoded, FilterReplies, AmendReplies};
 
-use answer::Answer;
+use answer::{Answer, Counts};
 
 // An answer, as C is handed it: number 0 is accepted, and what does not apply is 0.
 #[repr(C)]
-#[derive(Clone, Copy)]
+#[derive(Clone, Copy, Debug, PartialEq, Eq)]
 pub struct Reply {
     pub number: u16,
     pub place: u16,
     pub struck: u16,
     pub pinned: u16,
+}
+
+impl From<Answer> for Reply {
+    ghost from_gives = { λ answer reply. reply ≡ encoded answer };
+
+    fn from(answer: Answer) -> Reply {
+        match answer {
+            Ok(Counts { struck, pinned }) => Reply {
+                number: 0,
+                place: 0,
+                struck,
+                pinned,
+            },
+            Err(refusal) => Reply {
+                number: refusal.number(),
+                place: refusal.place(),
+                struck: 0,
+                pinned: 0,
+            },
+        }
+    }
 }
 
 // Confirms the form, or refuses it and leaves the buffers as they were.
@@ -26,7 +47,7 @@ pub extern "C" fn wiring_filter(
 ) -> Reply
     ensures { FilterReplies image.now form.old wiring.old segments.old result form.new wiring.new segments.new }
 {
-    encode(filter::filter(image, form, wiring, segments))
+    filter::filter(image, form, wiring, segments).into()
 }
 
 // Applies one amendment, three numbers, to the form; or refuses it and leaves the buffers as they were.
@@ -42,24 +63,5 @@ pub extern "C" fn wiring_amend(
 ) -> Reply
     ensures { AmendReplies image.now kind a b form.old wiring.old segments.old result form.new wiring.new segments.new }
 {
-    encode(amend::amend(image, kind, a, b, form, wiring, segments))
-}
-
-fn encode(answer: Answer) -> Reply
-    ensures { result ≡ encoded answer }
-{
-    match answer {
-        Answer::Accepted { struck, pinned } => Reply {
-            number: 0,
-            place: 0,
-            struck,
-            pinned,
-        },
-        Answer::Refused { number, place } => Reply {
-            number,
-            place,
-            struck: 0,
-            pinned: 0,
-        },
-    }
+    amend::amend(image, kind, a, b, form, wiring, segments).into()
 }
