@@ -56,7 +56,14 @@ impl Desk {
         let mut i = 1;
         while i < words.len() {
             let meaning = words::said(words, i);
-            if let Some(Meaning::Amendment { kind, first, second }) = meaning {
+            if let Some(
+                Meaning::Amendment {
+                    kind,
+                    first,
+                    second,
+                },
+            ) = meaning
+            {
                 counts = self.amend(kind, first, second).map_err(|refusal| Stop {
                     refusal,
                     step: Some(step),
