@@ -106,28 +106,6 @@ found_at g l h = record { first = found_here g h; inside = l }
 pub found_nowhere : {good : ℕ → Type 0} {n k : ℕ} → Going good n k → n ≤ k → Finds good n None
 found_nowhere {good} {n} {k} g l = let e : k ≡ n = omega (arith, g.within) in record { first = subst (First good n) e (found_none g l); inside = tt }
 
-finds_below : {good : ℕ → Type 0} {n k : ℕ} → First good n k → Finds good n (cond (ltb k n) (Some k) None)
-finds_below {good} {n} {k} f = go (ltb k n) refl
-  where
-    go : (b : Bool) → ltb k n ≡ b → Finds good n (cond b (Some k) None)
-    go true e = record { first = f; inside = ltb-true k n e }
-    go false e = let same : k ≡ n = omega (arith, ltb-false k n e, f.within) in record { first = rw same at f; inside = tt }
-
--- the first place of a list at which a test passes
-pub finds_position : {A : Type 0} {good : ℕ → Type 0} (test : A → Bool) (xs : List A) (d : A)
-    → ((k : ℕ) → k < length xs → test (get_or xs k d) ≡ false → good k)
-    → ((k : ℕ) → k < length xs → test (get_or xs k d) ≡ true → good k → ⊥)
-    → Finds good (length xs) (position test xs)
-finds_position {good = good} test xs d pass fail =
-    finds_below (record {
-      within = within;
-      before = λ j l. pass j (omega (arith, within)) (fails_before_first test xs j d l);
-      found = λ l. fail _ l (passes_at_first test xs d l);
-    })
-  where
-    within : position_or_len test xs ≤ length xs
-    within = prefix_len-le-length _ xs
-
 -- ---- the number and the place tell the refusal, and so the paper's reply tells what the code returns
 row_of : ℕ → ℕ → Refusal
 row_of n k =

@@ -49,7 +49,7 @@ abbrev pub replied : {A B : Type 0} → (A → B) → Result A Refusal → Reply
 replied says (Ok a) = accepted (says a)
 replied says (Err e) = refused (number_of e) (place_of e)
 
--- § 4.5: the possible runs that the last filtering struck, and those it pinned
+-- § 2.1, § 4.5: an answer, which carries how many possible runs the last filtering struck, and pinned
 abbrev pub told : Result Counts Refusal → Reply Counts
 told = replied (λ c. c)
 

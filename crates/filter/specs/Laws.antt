@@ -1,4 +1,4 @@
--- One turn of each loop that writes.
+-- What the loop over the runs, and putting values into a buffer, leave.
 use Rattle.std.specs.Prelude.{ℕ, zero, suc, ◌+◌, ◌*◌, ◌<◌, ◌≤◌, List, ◌≡◌, refl, length, get_or, set, take, drop, ◌++◌, ◌-◌}
 use Rattle.std.proofs.Common.{sym, ap, subst, ◌∙◌, length-append, length-drop, length-take-le, length-set, get_or-set_same, get_or-set_other, add-one, arith}
 use Rattle.std.proofs.lemmas.List.{get_or_append_left, get_or-append_right, get_or-take, get_or-drop}
@@ -18,22 +18,6 @@ pub length_restated : (f : ℕ → ℕ) (k : ℕ) (runs : List ℕ) → length (
 unfolding restated
 length_restated f zero runs = refl
 length_restated f (suc k) runs = length-set (restated f k runs) (5 * k + 4) (f k) ∙ length_restated f k runs
-
-pub written_none : {f : ℕ → ℕ} {before : List ℕ} → Written f 0 before before
-written_none = record { size = refl; says = λ j l. absurd (omega arith); rest = λ j l. refl }
-
-pub written_more : {f : ℕ → ℕ} {k v : ℕ} {before after : List ℕ} → Written f k before after → k < length after → v ≡ f k → Written f (k + 1) before (set after k v)
-written_more {f} {k} {v} {before} {after} w l e = record {
-  size = length-set after k v ∙ w.size;
-  says = λ j h. elim (ℕ_discrete j k) [
-    | yes p ↦ subst (λ (i : ℕ). get_or (set after k v) i 0 ≡ f i) (sym p) (get_or-set_same after k v 0 l ∙ e)
-    | no n ↦ get_or-set_other after k j v 0 n ∙ w.says j (omega arith)
-  ];
-  rest = λ j h. get_or-set_other after k j v 0 (λ p. omega arith) ∙ w.rest j (omega arith);
-}
-
-pub written_end : {f : ℕ → ℕ} {j k : ℕ} {before after : List ℕ} → Written f j before after → j ≡ k → Written f k before after
-written_end {f} {before = before} {after} w e = subst (λ (i : ℕ). Written f i before after) e w
 
 -- values put at the start of a buffer are the first that are written
 pub written_put : {f : ℕ → ℕ} (k : ℕ) (values before : List ℕ) {after : List ℕ} → k ≤ length values → k ≤ length before

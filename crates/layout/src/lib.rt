@@ -3,7 +3,7 @@
 
 ghost use Rattle.std.specs.Prelude.{◌≡◌, ◌+◌, ◌*◌, ◌≤◌, ◌<◌, length};
 ghost use Rattle.answer.specs.Table.{Finds, Decides, Clears};
-ghost use Rattle.layout.specs.Layout.{sizes, runs_in, Shows, line_four_bytes, over_at};
+ghost use Rattle.layout.specs.Layout.{sizes, runs_in, end_u, end_v, Shows, line_four_bytes, over_at};
 ghost use Rattle.layout.specs.Rows.{Numbers, Place, Good, Fresh, sound_rows};
 ghost use Rattle.layout.specs.Checked.{Checks};
 
@@ -108,16 +108,25 @@ fn first_repeat(runs: &[u8], m: usize) -> Option<usize>
 {
     'search: {
         for later in 0..m {
-            let new = run_at(runs, later);
+            let new = ends(runs, later);
             for earlier in 0..later {
-                let old = run_at(runs, earlier);
-                if old.u == new.u && old.v == new.v {
+                if ends(runs, earlier) == new {
                     break 'search Some(later);
                 }
             }
         }
         None
     }
+}
+
+// Both ends of run r as one number, for comparing.
+fn ends(runs: &[u8], r: usize) -> u32
+    requires { 5 * r + 5 ≤ length runs.now }
+    ensures value { result ≡ end_u sizes runs.now r + 65536 * end_v sizes runs.now r }
+    ensures low { end_u sizes runs.now r < 65536 }
+{
+    let at = RUN * r;
+    u32::from_le_bytes([runs[at], runs[at + 1], runs[at + 2], runs[at + 3]])
 }
 
 // Numbers 2 and 4 to 7, in their order, of a byte for each place, the records of the runs, and line four.

@@ -2,7 +2,7 @@
 // bytes it takes. A write that fails is the only error, and leaves written what went before it.
 #![tactic(auto)]
 
-ghost use Rattle.std.specs.Prelude.{◌≡◌, ◌≤◌, ◌+◌, ◌*◌, min, OnOk, slice_index, replicate};
+ghost use Rattle.std.specs.Prelude.{◌≡◌, ◌≤◌, ◌+◌, ◌*◌, min, OnOk, replicate};
 ghost use Rattle.std.specs.Io.KnownBytes.{Appends};
 ghost use Rattle.listing.specs.Listing.{refused_line, step_line, ok_line, run_line, place_line, run_lines, place_lines, listing};
 ghost use Rattle.layout.specs.Layout.{word as word_at};
