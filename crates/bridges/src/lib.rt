@@ -22,9 +22,9 @@ pub enum Kind {
 
 // The kind of each run whose state is above 0.
 #[inline(never)]
-pub fn kinds(places: &[u8], runs: &[u8], states: [u8; 1024], m: usize) -> [Kind; 1024]
+pub fn kinds(places: &[u8], runs: &[u8], states: &[u8; 1024], m: usize) -> [Kind; 1024]
     requires { Fits places.now runs.now m }
-    ensures { Kinds places.now runs.now states m result }
+    ensures { Kinds places.now runs.now states.now m result }
 {
     let grown = forest::grow(places, runs, states, m);
     let mut passed = [false; 256];

@@ -110,9 +110,9 @@ fn mark(state: u8, a: u16, b: u16, fa: bool, fb: bool, kind: Kind, tight: bool, 
 }
 
 // How many possible runs have been given a state.
-fn count(states: [u8; 1024], marks: [u8; 1024], m: usize, state: u8) -> u16
+fn count(states: &[u8; 1024], marks: &[u8; 1024], m: usize, state: u8) -> u16
     requires { m ≤ 1024 }
-    ensures { Counted (λ j. (get_or states j 0 ≡ 1) × (get_or marks j 0 ≡ state)) m result }
+    ensures { Counted (λ j. (get_or states.now j 0 ≡ 1) × (get_or marks.now j 0 ≡ state)) m result }
 {
     let mut k = 0;
     for r in 0..m {
@@ -127,14 +127,14 @@ fn count(states: [u8; 1024], marks: [u8; 1024], m: usize, state: u8) -> u16
 fn marks(
     runs: &[u8],
     line: Range,
-    states: [u8; 1024],
+    states: &[u8; 1024],
     judged: &Judged,
-    kinds: [Kind; 1024],
+    kinds: &[Kind; 1024],
 ) -> [u8; 1024]
     requires few { runs_in sizes runs.now ≤ 1024 }
     requires ended { Ended runs.now (runs_in sizes runs.now) }
     requires labelled { (x : ℕ) → x < 256 → at judged.now.labels x < 256 }
-    ensures { MarkedTo runs.now line.low line.high states judged.now.labels judged.now.fed kinds judged.now.least judged.now.most (runs_in sizes runs.now) result }
+    ensures { MarkedTo runs.now line.low line.high states.now judged.now.labels judged.now.fed kinds.now judged.now.least judged.now.most (runs_in sizes runs.now) result }
 {
     let low = usize::from(line.low);
     let high = usize::from(line.high);
@@ -154,8 +154,8 @@ fn marks(
 
 // Numbers 9 to 11, in their order.
 #[inline(never)]
-fn judge(form: SoundForm, states: [u8; 1024]) -> Result<Judged, Refusal>
-    requires { StatesOf form.runs.now (runs_in sizes form.runs.now) states }
+fn judge(form: SoundForm, states: &[u8; 1024]) -> Result<Judged, Refusal>
+    requires { StatesOf form.runs.now (runs_in sizes form.runs.now) states.now }
     ensures { Judges (fields form.entry) result }
 {
     let n = form.places.len();
@@ -180,8 +180,8 @@ fn judge(form: SoundForm, states: [u8; 1024]) -> Result<Judged, Refusal>
 }
 
 // The confirmation of a form that numbers 9 to 11 say nothing against.
-fn conclude(form: SoundForm, states: [u8; 1024], judged: Judged) -> Confirmation
-    requires states_of { StatesOf form.runs.now (runs_in sizes form.runs.now) states }
+fn conclude(form: SoundForm, states: &[u8; 1024], judged: Judged) -> Confirmation
+    requires states_of { StatesOf form.runs.now (runs_in sizes form.runs.now) states.now }
     requires judges { Judges (fields form) (Ok judged) }
     ensures { Confirms (fields form.entry) (Ok result) }
 {
@@ -193,7 +193,7 @@ fn conclude(form: SoundForm, states: [u8; 1024], judged: Judged) -> Confirmation
     } = form;
     let m = layout::count(runs);
     let kinds = bridges::kinds(places, runs, states, m);
-    let marks = marks(runs, line, states, &judged, kinds);
+    let marks = marks(runs, line, states, &judged, &kinds);
     let Judged { least, most, .. } = judged;
     let narrowed = line.narrowed(Range {
         low: least as u16,
@@ -208,8 +208,8 @@ fn conclude(form: SoundForm, states: [u8; 1024], judged: Judged) -> Confirmation
         segments,
         line: narrowed,
         counts: Counts {
-            struck: count(states, marks, m, 0),
-            pinned: count(states, marks, m, 2),
+            struck: count(states, &marks, m, 0),
+            pinned: count(states, &marks, m, 2),
         },
     }
 }
@@ -219,6 +219,6 @@ pub fn confirm(form: SoundForm) -> Result<Confirmation, Refusal>
     ensures { Confirms (fields form.entry) result }
 {
     let states = states(form.runs, layout::count(form.runs));
-    let judged = judge(form, states)?;
-    Ok(conclude(form, states, judged))
+    let judged = judge(form, &states)?;
+    Ok(conclude(form, &states, judged))
 }

@@ -51,9 +51,9 @@ impl Chains {
 
 // Grows the forest: each candidate for a root that is not there yet, the supplies first; and from it on, at each place in the order of growth, the
 // other ends of its entries.
-pub fn grow(places: &[u8], runs: &[u8], states: [u8; 1024], m: usize) -> Forest
+pub fn grow(places: &[u8], runs: &[u8], states: &[u8; 1024], m: usize) -> Forest
     requires { Fits places.now runs.now m }
-    ensures grown { Grown (order_at places.now runs.now states m) (at result.rank) (at result.up) (at result.via) }
+    ensures grown { Grown (order_at places.now runs.now states.now m) (at result.rank) (at result.up) (at result.via) }
     ensures ranked { Ranked (length places.now) result.order result.rank }
 {
     let chains = link(runs, states, m);
@@ -91,9 +91,9 @@ pub fn grow(places: &[u8], runs: &[u8], states: [u8; 1024], m: usize) -> Forest
 }
 
 // The chains of entries.
-fn link(runs: &[u8], states: [u8; 1024], m: usize) -> Chains
+fn link(runs: &[u8], states: &[u8; 1024], m: usize) -> Chains
     requires { (m ≤ 1024) × Ended runs.now m }
-    ensures { Links runs.now states m result.head result.prev }
+    ensures { Links runs.now states.now m result.head result.prev }
 {
     let mut chains = Chains {
         head: [0; 256],

@@ -17,9 +17,9 @@ pub struct Wired {
 }
 
 // 1 for each fixed run.
-pub fn fixed(states: [u8; 1024], m: usize) -> [u8; 1024]
+pub fn fixed(states: &[u8; 1024], m: usize) -> [u8; 1024]
     requires { m ≤ 1024 }
-    ensures { Flags states m result }
+    ensures { Flags states.now m result }
 {
     let mut flags = [0; 1024];
     for r in 0..m {
@@ -41,9 +41,9 @@ fn merged(fed: [bool; 256], a: usize, b: usize) -> [bool; 256]
 
 // The runs that the scan uses with so many joins to spare, and the labels they give.
 #[inline(never)]
-pub fn scan(places: &[u8], runs: &[u8], states: [u8; 1024], m: usize, spare: usize) -> Wired
+pub fn scan(places: &[u8], runs: &[u8], states: &[u8; 1024], m: usize, spare: usize) -> Wired
     requires { Fits places.now runs.now m }
-    ensures { Scans places.now runs.now states m spare result.used result.labels }
+    ensures { Scans places.now runs.now states.now m spare result.used result.labels }
 {
     let mut used = fixed(states, m);
     let mut labels = pieces::find(runs, &used[..m]).labels;

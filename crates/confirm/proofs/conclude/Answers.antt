@@ -62,11 +62,11 @@ count-requires-2 c =
 
 -- the scan had as many joins to spare as MAX is above the confirmed high
 scanned : (c : After-scan-wired)
-    → Scans c.args.form.places.now c.args.form.runs.now c.args.states (runs_in sizes c.args.form.runs.now)
+    → Scans c.args.form.places.now c.args.form.runs.now c.args.states.now (runs_in sizes c.args.form.runs.now)
     (c.args.judged.most - min c.args.form.line.high c.args.judged.most) c.scan-wired.result.used c.scan-wired.result.labels
 scanned c =
     let counted = rw c.count-m.ensures at c.scan-wired.ensures in
-    subst (λ (x : ℕ). Scans c.args.form.places.now c.args.form.runs.now c.args.states (runs_in sizes c.args.form.runs.now) (c.args.judged.most - x) c.scan-wired.result.used c.scan-wired.result.labels)
+    subst (λ (x : ℕ). Scans c.args.form.places.now c.args.form.runs.now c.args.states.now (runs_in sizes c.args.form.runs.now) (c.args.judged.most - x) c.scan-wired.result.used c.scan-wired.result.labels)
     (c.from.ensures ∙ ap (λ (r : Range). r.high) c.narrowed-narrowed.ensures) counted
 
 pub returns : goal.returns
@@ -78,7 +78,7 @@ returns c =
       confirmed =
           subst (λ (r : Range). Confirmed (order_of f) (at c.marks-marks.result) r.low r.high (flagged c.scan-wired.result.used) (at c.scan-wired.result.labels) c.count.result c.count-2.result)
           (sym c.narrowed-narrowed.ensures)
-          (concluded f c.args.form.clears c.args.states c.requires.states_of c.args.judged j
+          (concluded f c.args.form.clears c.args.states.now c.requires.states_of c.args.judged j
           c.kinds-kinds.result c.marks-marks.result c.scan-wired.result.used c.scan-wired.result.labels c.count.result c.count-2.result
           (rw c.count-m.ensures at c.kinds-kinds.ensures) c.marks-marks.ensures (scanned e) (rw c.count-m.ensures at c.count.ensures) (rw c.count-m.ensures at c.count-2.ensures));
       bits = (scanned e (order_of f) (record { n = refl; supply = refl; u = refl; v = refl }) refl (λ r l. sym (c.requires.states_of.says r l))).bits;

@@ -45,39 +45,34 @@ find-by_fixed-requires c =
     let f = fields c.args.form in let fit = counted (fields_fit f c.args.form.clears) c.count-m.ensures in
     rw (lent c.count-m.result c.fixed-fixed.result fit.few (omega (arith, c.fixed-fixed.type_inv))) (fits_ended fit)
 
-pub slice_bounds-states-end : goal.slice_bounds-states-end
-slice_bounds-states-end c =
-    let f = fields c.args.form in let fit = counted (fields_fit f c.args.form.clears) c.count-m.ensures in
-    omega (arith, fit.few)
-
 pub slice_bounds-find-end-2 : goal.slice_bounds-find-end-2
 slice_bounds-find-end-2 c =
     let f = fields c.args.form in let fit = counted (fields_fit f c.args.form.clears) c.count-m.ensures in
-    sym (lent c.count-m.result c.args.states fit.few (omega arith))
+    sym (lent c.count-m.result c.args.states.now fit.few (omega arith))
 
 pub find-by_unstruck-requires : goal.find-by_unstruck-requires
 find-by_unstruck-requires c =
     let f = fields c.args.form in let fit = counted (fields_fit f c.args.form.clears) c.count-m.ensures in
-    rw (lent c.count-m.result c.args.states fit.few (omega arith)) (fits_ended fit)
+    rw (lent c.count-m.result c.args.states.now fit.few (omega arith)) (fits_ended fit)
 
 -- past both findings: the labels are those by the fixed runs, and by the unstruck ones
 by_fixed : (c : After-find-by_unstruck) → Holds (label (order_of (fields c.args.form)) (fixed_runs (order_of (fields c.args.form)))) c.find-by_fixed.result.labels
 by_fixed c =
     let f = fields c.args.form in let fit = counted (fields_fit f c.args.form.clears) c.count-m.ensures in
     let found = rw (lent c.count-m.result c.fixed-fixed.result fit.few (omega (arith, c.fixed-fixed.type_inv))) at c.find-by_fixed.ensures.holds in
-    holds_same (rw c.count-m.ensures at found) (λ x l. fixed_labels f c.args.states c.fixed-fixed.result c.requires (rw c.count-m.ensures at c.fixed-fixed.ensures) x)
+    holds_same (rw c.count-m.ensures at found) (λ x l. fixed_labels f c.args.states.now c.fixed-fixed.result c.requires (rw c.count-m.ensures at c.fixed-fixed.ensures) x)
 
 by_unstruck : (c : After-find-by_unstruck) → Holds (label (order_of (fields c.args.form)) (unstruck_runs (order_of (fields c.args.form)))) c.find-by_unstruck.result.labels
 by_unstruck c =
     let f = fields c.args.form in let fit = counted (fields_fit f c.args.form.clears) c.count-m.ensures in
-    let found = rw (lent c.count-m.result c.args.states fit.few (omega arith)) at c.find-by_unstruck.ensures.holds in
-    holds_same (rw c.count-m.ensures at found) (λ x l. unstruck_labels f c.args.states c.args.states c.requires x)
+    let found = rw (lent c.count-m.result c.args.states.now fit.few (omega arith)) at c.find-by_unstruck.ensures.holds in
+    holds_same (rw c.count-m.ensures at found) (λ x l. unstruck_labels f c.args.states.now c.args.states.now c.requires x)
 
 closed : (c : After-find-by_unstruck) → Finds (Opens (order_of (fields c.args.form))) (runs_in sizes c.args.form.runs.now) c.find-by_fixed.result.closing
 closed c =
     let f = fields c.args.form in let fit = counted (fields_fit f c.args.form.clears) c.count-m.ensures in
     let found = rw (lent c.count-m.result c.fixed-fixed.result fit.few (omega (arith, c.fixed-fixed.type_inv))) at c.find-by_fixed.ensures.first in
-    closing_first f c.args.states c.fixed-fixed.result c.requires (rw c.count-m.ensures at c.fixed-fixed.ensures) (rw c.count-m.ensures at found)
+    closing_first f c.args.states.now c.fixed-fixed.result c.requires (rw c.count-m.ensures at c.fixed-fixed.ensures) (rw c.count-m.ensures at found)
 
 pub supplied-fed-requires : goal.supplied-fed-requires
 supplied-fed-requires c =

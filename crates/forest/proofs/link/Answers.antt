@@ -11,6 +11,6 @@ loop-r-init c = λ places f. linked_none (length-replicate {A = ℕ} 256 0) (len
 
 pub loop-r-preserved : goal.loop-r-preserved
 loop-r-preserved c = λ places f. elim c.if-states-r-gt0.branch [
-  | then-states-r-gt0 w ↦ rw (w.chains-is, w.put-then-states-r-gt0.ensures, w.put.ensures) (link_run f c.args.states (c.loop-r.invariant places f) c.loop-r-test.true w.if-states-r-gt0.true f.few w.run_at-u.ensures)
-  | else-states-r-gt0 w ↦ rw w.chains-is (link_struck f c.args.states (c.loop-r.invariant places f) c.loop-r-test.true (omega (arith, w.if-states-r-gt0.false)))
+  | then-states-r-gt0 w ↦ rw (w.chains-is, w.put-then-states-r-gt0.ensures, w.put.ensures) (link_run f c.args.states.now (c.loop-r.invariant places f) c.loop-r-test.true w.if-states-r-gt0.true f.few w.run_at-u.ensures)
+  | else-states-r-gt0 w ↦ rw w.chains-is (link_struck f c.args.states.now (c.loop-r.invariant places f) c.loop-r-test.true (omega (arith, w.if-states-r-gt0.false)))
 ]

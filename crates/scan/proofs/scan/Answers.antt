@@ -14,7 +14,7 @@ loop-r-init c = let f = c.fixed-used in
 
 -- the labels of the ends of the run that was read are places
 labels_small : (c : After-from-b) → (c.from-a.result < 256) × (c.from-b.result < 256)
-labels_small c = let f = c.requires in let r = c.loop-r.r in let l = c.loop-r-test.true in let le = going_le (c.loop-r.invariant _ (some_of c.args.states f)) in
+labels_small c = let f = c.requires in let r = c.loop-r.r in let l = c.loop-r-test.true in let le = going_le (c.loop-r.invariant _ (some_of c.args.states.now f)) in
     let u : c.run_at-u.result.u < 256 = omega (arith, f.one r l) in let v : c.run_at-u.result.v < 256 = omega (arith, f.other r l) in
     (omega (arith, le _ u), omega (arith, le _ v))
 
@@ -50,5 +50,5 @@ loop-r-preserved c = λ o of. let g = c.loop-r.invariant o of in let l = c.loop-
     ]
 
 pub returns : goal.returns
-returns c = λ o d e m. let of : Of c.args.places.now c.args.runs.now c.args.states c.args.m o = record { fits = c.requires; drawn = d; many = e; marks = m } in
+returns c = λ o d e m. let of : Of c.args.places.now c.args.runs.now c.args.states.now c.args.m o = record { fits = c.requires; drawn = d; many = e; marks = m } in
     going_all of (c.loop-r.invariant o of) (omega arith)
