@@ -1,8 +1,7 @@
 -- What the loop over the runs, and putting values into a buffer, leave.
 use Rattle.std.specs.Prelude.{ℕ, zero, suc, ◌+◌, ◌*◌, ◌<◌, ◌≤◌, List, ◌≡◌, refl, length, get_or, set, take, drop, ◌++◌, ◌-◌}
-use Rattle.std.proofs.Common.{sym, ap, subst, ◌∙◌, length-append, length-drop, length-take-le, length-set, get_or-set_same, get_or-set_other, add-one, arith}
+use Rattle.std.proofs.Common.{sym, ap, subst, ◌∙◌, length-append, length-drop, length-take-le, length-set, add-one, arith}
 use Rattle.std.proofs.lemmas.List.{get_or_append_left, get_or-append_right, get_or-take, get_or-drop}
-use Rattle.std.proofs.Math.Decide.{ℕ_discrete}
 use Rattle.filter.specs.Filtered.{restated, Written}
 use Rattle.layout.specs.Layout.{over_at}
 

@@ -1,5 +1,5 @@
 // The fields that the lines of a text give, as the writer takes them.
-ghost use Rattle.std.specs.Prelude.{◌≡◌, ◌≤◌, length, IfOk, Some};
+ghost use Rattle.std.specs.Prelude.{◌≤◌, length, IfOk, Some};
 ghost use Rattle.items.specs.Within.{Fits};
 ghost use Rattle.items.specs.Messages.{error_text};
 
@@ -46,18 +46,14 @@ struct SoFar {
 
 impl SoFar {
     // A place more. A form has at most 256: the last byte stands for all that are too many.
-    fn add_place(&mut self, supply: bool, places: &mut [u8])
-        requires { length places.old ≡ 257 }
-    {
+    fn add_place(&mut self, supply: bool, places: &mut [u8; 257]) {
         let at = self.places.min(256);
         places[at] = u8::from(supply);
         self.places = at + 1;
     }
 
     // A run more. A form has at most 1,024: the last record stands for all that are too many.
-    fn add_run(&mut self, u: u16, v: u16, state: u8, runs: &mut [u8])
-        requires { length runs.old ≡ 5125 }
-    {
+    fn add_run(&mut self, u: u16, v: u16, state: u8, runs: &mut [u8; 5125]) {
         let at = self.records.min(5120);
         let [u_low, u_high] = u.to_le_bytes();
         let [v_low, v_high] = v.to_le_bytes();
@@ -78,9 +74,12 @@ impl SoFar {
     }
 
     // One line more.
-    fn add(&mut self, line: &[u8], places: &mut [u8], runs: &mut [u8]) -> Result<(), Wrong>
-        requires { (length places.old ≡ 257) × (length runs.old ≡ 5125) }
-    {
+    fn add(
+        &mut self,
+        line: &[u8],
+        places: &mut [u8; 257],
+        runs: &mut [u8; 5125],
+    ) -> Result<(), Wrong> {
         match read(line)? {
             Item::Nothing => {}
             Item::Place { supply } => self.add_place(supply, places),
@@ -100,10 +99,10 @@ fn bare(line: &[u8]) -> &[u8] {
 // Goes through the lines up to the first that is wrong. A line ends at a line feed, and the last one may do without.
 pub fn gather<'a>(
     text: &[u8],
-    places: &'a mut [u8],
-    runs: &'a mut [u8],
+    places: &'a mut [u8; 257],
+    runs: &'a mut [u8; 5125],
 ) -> Result<Fields<'a>, TextError>
-    requires { (length text.now ≤ 65536) × (length places.old ≡ 257) × (length runs.old ≡ 5125) }
+    requires { length text.now ≤ 65536 }
     ensures { IfOk result Fits }
 {
     let mut so_far = SoFar {
