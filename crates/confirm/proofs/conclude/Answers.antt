@@ -1,7 +1,7 @@
 -- `conclude` puts the confirmation together.
 use Rattle.std.proofs.Common.{ℕ, ◌≡◌, ◌-◌, ◌≤◌, min, refl, sym, ap, ◌∙◌, subst, length, arith}
 use Rattle.answer.specs.declared.Range.{Range}
-use Rattle.confirm.specs.Concluded.{concluded, pieces_few, fed_few}
+use Rattle.confirm.specs.Concluded.{concluded, fed_few}
 use Rattle.confirm.specs.Judging.{fields_fit, labels_below}
 use Rattle.layout.specs.Layout.{sizes, runs_in, Fields}
 use Rattle.pieces.specs.Holds.{at, fits_ended}
@@ -9,56 +9,29 @@ use Rattle.scan.specs.Scans.{Scans}
 use Rattle.wirings.specs.Chosen.{flagged}
 use Rattle.wirings.specs.Confirmed.{Confirmed}
 use Rattle.wirings.specs.Labels.{label}
-use Rattle.wirings.specs.Limits.{fixed_runs, unstruck_runs, least, most}
+use Rattle.wirings.specs.Limits.{fixed_runs, most}
 use Rattle.wirings.specs.OfForm.{order_of}
 use Rattle.layout.specs.Sound.{fields}
 use Rattle.confirm.proofs.conclude.Goals as goal
 use Rattle.confirm.proofs.conclude.Goals.{After-scan-wired}
 
--- MIN and MAX are at most the number of places
-least_small : (f : Fields) (k : ℕ) → k ≡ least (order_of f) → length f.places ≤ 256 → k ≤ 256
-least_small f k e small = omega (arith, e, pieces_few (length f.places) (label (order_of f) (unstruck_runs (order_of f))), small)
-
 most_small : (f : Fields) (k : ℕ) → k ≡ most (order_of f) → length f.places ≤ 256 → k ≤ 256
 most_small f k e small = omega (arith, e, fed_few (length f.places) (order_of f).supply (label (order_of f) (fixed_runs (order_of f))), small)
-
-pub kinds-kinds-requires : goal.kinds-kinds-requires
-kinds-kinds-requires c =
-    let f = fields c.args.form in let fit = fields_fit f c.args.form.clears in
-    rw c.count-m.ensures fit
 
 pub marks-marks-requires : goal.marks-marks-requires
 marks-marks-requires c =
     let f = fields c.args.form in let fit = fields_fit f c.args.form.clears in
     record { few = fit.few; ended = fits_ended fit; labelled = labels_below f _ _ c.requires.judges.found.labelled }
 
-pub overflow_cast-least : goal.overflow_cast-least
-overflow_cast-least c =
-    let f = fields c.args.form in let fit = fields_fit f c.args.form.clears in
-    omega (arith, least_small f c.args.judged.least c.requires.judges.found.lowest fit.small)
-
 pub overflow_cast-most : goal.overflow_cast-most
 overflow_cast-most c =
     let f = fields c.args.form in let fit = fields_fit f c.args.form.clears in
     omega (arith, most_small f c.args.judged.most c.requires.judges.found.highest fit.small)
 
-pub overflow_sub-most : goal.overflow_sub-most
-overflow_sub-most c = omega (arith, ap (λ (r : Range). r.high) c.narrowed-narrowed.ensures)
-
 pub scan-wired-requires : goal.scan-wired-requires
 scan-wired-requires c =
     let f = fields c.args.form in let fit = fields_fit f c.args.form.clears in
     rw c.count-m.ensures fit
-
-pub count-requires : goal.count-requires
-count-requires c =
-    let f = fields c.args.form in let fit = fields_fit f c.args.form.clears in
-    rw c.count-m.ensures fit.few
-
-pub count-requires-2 : goal.count-requires-2
-count-requires-2 c =
-    let f = fields c.args.form in let fit = fields_fit f c.args.form.clears in
-    rw c.count-m.ensures fit.few
 
 -- the scan had as many joins to spare as MAX is above the confirmed high
 scanned : (c : After-scan-wired)

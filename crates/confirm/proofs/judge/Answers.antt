@@ -7,7 +7,7 @@ use Rattle.answer.specs.Laws.{handed_on}
 use Rattle.confirm.specs.Judged.{Settles}
 use Rattle.confirm.specs.Judging.{fields_fit, fixed_labels, unstruck_labels, closing_first, supplied_as, counted_as, fed_as, labels_below, bare_first}
 use Rattle.layout.specs.Layout.{sizes, runs_in}
-use Rattle.pieces.specs.Holds.{Holds, Fits, fits_ended}
+use Rattle.pieces.specs.Holds.{Holds, Fits}
 use Rattle.pieces.specs.Laws.{holds_same}
 use Rattle.wirings.specs.Labels.{label}
 use Rattle.wirings.specs.Limits.{fixed_runs, unstruck_runs}
@@ -21,39 +21,9 @@ use Rattle.confirm.proofs.judge.Goals.{After-find-by_unstruck, After-verdict}
 counted : {places runs : List ℕ} {m k : ℕ} → Fits places runs k → m ≡ k → Fits places runs m
 counted {places} {runs} fit e = subst (Fits places runs) (sym e) fit
 
-pub fixed-fixed-requires : goal.fixed-fixed-requires
-fixed-fixed-requires c =
-    let f = fields c.args.form in let fit = counted (fields_fit f c.args.form.clears) c.count-m.ensures in
-    fit.few
-
 -- a flag or a state for each run is lent
 lent : (m : ℕ) (flags : List ℕ) → m ≤ 1024 → length flags ≡ 1024 → length (take m flags) ≡ m
 lent m flags few long = length-take-le m flags (omega arith)
-
-pub slice_bounds-fixed-end : goal.slice_bounds-fixed-end
-slice_bounds-fixed-end c =
-    let f = fields c.args.form in let fit = counted (fields_fit f c.args.form.clears) c.count-m.ensures in
-    omega (arith, fit.few, c.fixed-fixed.type_inv)
-
-pub slice_bounds-find-end : goal.slice_bounds-find-end
-slice_bounds-find-end c =
-    let f = fields c.args.form in let fit = counted (fields_fit f c.args.form.clears) c.count-m.ensures in
-    sym (lent c.count-m.result c.fixed-fixed.result fit.few (omega (arith, c.fixed-fixed.type_inv)))
-
-pub find-by_fixed-requires : goal.find-by_fixed-requires
-find-by_fixed-requires c =
-    let f = fields c.args.form in let fit = counted (fields_fit f c.args.form.clears) c.count-m.ensures in
-    rw (lent c.count-m.result c.fixed-fixed.result fit.few (omega (arith, c.fixed-fixed.type_inv))) (fits_ended fit)
-
-pub slice_bounds-find-end-2 : goal.slice_bounds-find-end-2
-slice_bounds-find-end-2 c =
-    let f = fields c.args.form in let fit = counted (fields_fit f c.args.form.clears) c.count-m.ensures in
-    sym (lent c.count-m.result c.args.states.now fit.few (omega arith))
-
-pub find-by_unstruck-requires : goal.find-by_unstruck-requires
-find-by_unstruck-requires c =
-    let f = fields c.args.form in let fit = counted (fields_fit f c.args.form.clears) c.count-m.ensures in
-    rw (lent c.count-m.result c.args.states.now fit.few (omega arith)) (fits_ended fit)
 
 -- past both findings: the labels are those by the fixed runs, and by the unstruck ones
 by_fixed : (c : After-find-by_unstruck) → Holds (label (order_of (fields c.args.form)) (fixed_runs (order_of (fields c.args.form)))) c.find-by_fixed.result.labels
@@ -88,16 +58,6 @@ pub first_bare-bare-requires : goal.first_bare-bare-requires
 first_bare-bare-requires c =
     let f = fields c.args.form in let fit = counted (fields_fit f c.args.form.clears) c.count-m.ensures in
     (fit.small, labels_below f _ _ (by_unstruck (goal.at.first_bare-bare-requires c).After-find-by_unstruck))
-
-pub count-least-requires : goal.count-least-requires
-count-least-requires c =
-    let f = fields c.args.form in let fit = counted (fields_fit f c.args.form.clears) c.count-m.ensures in
-    fit.small
-
-pub count_supplied-most-requires : goal.count_supplied-most-requires
-count_supplied-most-requires c =
-    let f = fields c.args.form in let fit = counted (fields_fit f c.args.form.clears) c.count-m.ensures in
-    record { small = fit.small; supplied = c.supplied-fed.ensures }
 
 -- what a search found is below any bound on how many there are
 below : {n k : ℕ} (r : Option ℕ) → IfSome r (λ i. i < n) → n ≤ k → IfSome r (λ i. i < k)

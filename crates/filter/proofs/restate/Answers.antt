@@ -1,5 +1,4 @@
-use Rattle.std.proofs.Common.{ℕ, ◌+◌, ◌*◌, List, ◌≡◌, refl, sym, ap, ◌∙◌, set, length-set, arith}
-use Rattle.filter.specs.Filtered.{restated}
+use Rattle.std.proofs.Common.{ℕ, ◌+◌, ◌*◌, List, refl, sym, ap, ◌∙◌, set, length-set, arith}
 use Rattle.filter.specs.Laws.{restated_none, restated_more}
 use Rattle.pieces.specs.Holds.{at}
 use Rattle.filter.proofs.restate.Goals as goal
@@ -7,18 +6,9 @@ use Rattle.filter.proofs.restate.Goals as goal
 pub loop-r-init : goal.loop-r-init
 loop-r-init c = (omega arith, refl, sym (restated_none _ _))
 
-pub bounds-runs-r : goal.bounds-runs-r
-bounds-runs-r c = omega arith
-
 pub loop-r-preserved : goal.loop-r-preserved
 loop-r-preserved c = (
   omega arith,
   simp length-set c.loop-r.invariant.1,
   ap (λ (l : List ℕ). set l (5 * c.loop-r.r + 4) (at c.args.marks.now c.loop-r.r)) c.loop-r.invariant.2 ∙ sym (restated_more _ c.loop-r.r _),
 )
-
-pub shape_of-runs : goal.shape_of-runs
-shape_of-runs c = c.loop-r.invariant.1
-
-pub returns : goal.returns
-returns c = let e : c.loop-r.r ≡ c.args.m = omega arith in c.loop-r.invariant.2 ∙ ap (λ (k : ℕ). restated (at c.args.marks.now) k c.args.runs.now) e

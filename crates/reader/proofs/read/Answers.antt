@@ -13,44 +13,14 @@ use Rattle.reader.proofs.read.Goals.{After-check}
 pub returns-then-not-listed : goal.returns-then-not-listed
 returns-then-not-listed c = refuses (denied c.listed.ensures c.if-not-listed.true)
 
-pub bounds-image-6 : goal.bounds-image-6
-bounds-image-6 c = let l = decided c.listed.ensures c.if-not-listed.false in omega arith
-
-pub bounds-image-7 : goal.bounds-image-7
-bounds-image-7 c = let l = decided c.listed.ensures c.if-not-listed.false in omega arith
-
-pub bounds-image-12 : goal.bounds-image-12
-bounds-image-12 c = let l = decided c.listed.ensures c.if-not-listed.false in omega arith
-
-pub bounds-image-13 : goal.bounds-image-13
-bounds-image-13 c = let l = decided c.listed.ensures c.if-not-listed.false in omega arith
-
 pub returns-then-not-numbers : goal.returns-then-not-numbers
 returns-then-not-numbers c = passes (decided c.listed.ensures c.if-not-listed.false)
     (refuses (λ h. denied c.numbers.ensures c.if-not-numbers.true (omega arith)))
-
-pub laid-requires : goal.laid-requires
-laid-requires c = record { contents_there = (decided c.listed.ensures c.if-not-listed.false).there; numbers = decided c.numbers.ensures c.if-not-numbers.false }
 
 pub returns-then-not-laid : goal.returns-then-not-laid
 returns-then-not-laid c = let n = decided c.numbers.ensures c.if-not-numbers.false in
     passes (decided c.listed.ensures c.if-not-listed.false) (passes (omega arith)
     (refuses (λ h. denied c.laid.ensures c.if-not-laid.true (omega arith))))
-
-pub bounds-image-at : goal.bounds-image-at
-bounds-image-at c = let d = decided c.laid.ensures c.if-not-laid.false in omega arith
-
-pub bounds-image-at-2 : goal.bounds-image-at-2
-bounds-image-at-2 c = let d = decided c.laid.ensures c.if-not-laid.false in omega arith
-
-pub bounds-image-at-3 : goal.bounds-image-at-3
-bounds-image-at-3 c = let d = decided c.laid.ensures c.if-not-laid.false in omega arith
-
-pub bounds-image-at-4 : goal.bounds-image-at-4
-bounds-image-at-4 c = let d = decided c.laid.ensures c.if-not-laid.false in omega arith
-
-pub slice_bounds-check-end : goal.slice_bounds-check-end
-slice_bounds-check-end c = let d = decided c.laid.ensures c.if-not-laid.false in omega arith
 
 pub slice_bounds-check-end-2 : goal.slice_bounds-check-end-2
 slice_bounds-check-end-2 c = let d = decided c.laid.ensures c.if-not-laid.false in omega arith

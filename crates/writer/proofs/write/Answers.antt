@@ -5,10 +5,10 @@ use Rattle.answer.specs.Reply.{accepted}
 use Rattle.answer.specs.Table.{Clears}
 use Rattle.answer.specs.declared.Range.{Range}
 use Rattle.layout.proofs.Image.{length_image}
-use Rattle.layout.proofs.Laws.{whole_runs, counts}
+use Rattle.layout.proofs.Laws.{whole_runs}
 use Rattle.layout.specs.Layout.{sizes, runs_in, Fields, contents, image}
-use Rattle.layout.specs.Rows.{Numbers, sound_rows}
-use Rattle.writer.specs.Laws.{unsound, sound, too_short, written, four_parts}
+use Rattle.layout.specs.Rows.{sound_rows}
+use Rattle.writer.specs.Laws.{unsound, sound, written, four_parts}
 use Rattle.writer.proofs.write.Goals as goal
 use Rattle.writer.proofs.write.Goals.{In_ok-check}
 
@@ -29,25 +29,10 @@ length-so c = let w = runs-whole c in omega (arith, length_image (f c.args.place
 count-so : (c : In_ok-check) → length c.args.runs.now / 5 ≡ runs_in sizes c.args.runs.now
 count-so c = omega (arith, runs-whole c)
 
-in-range : (c : In_ok-check) → Numbers (length c.args.places.now) (runs_in sizes c.args.runs.now)
-in-range c = counts sizes (omega arith) (f c.args.places.now c.args.runs.now c.args.line) (clear c)
-
 pub returns-in_err-check : goal.returns-in_err-check
 returns-in_err-check c =
     rw (handed_on c.from_residual.result c.from_residual.ensures.1)
     (unsound (f c.args.places.now c.args.runs.now c.args.line) c.args.form.now c.check.ensures c.in_err-check.was)
-
-pub overflow_add-line_at : goal.overflow_add-line_at
-overflow_add-line_at c = omega (arith, runs-whole (goal.at.overflow_add-line_at c).In_ok-check, in-range (goal.at.overflow_add-line_at c).In_ok-check)
-
-pub overflow_add-length : goal.overflow_add-length
-overflow_add-length c = omega (arith, runs-whole (goal.at.overflow_add-length c).In_ok-check, in-range (goal.at.overflow_add-length c).In_ok-check)
-
-pub returns-then-form-length : goal.returns-then-form-length
-returns-then-form-length c = too_short (f c.args.places.now c.args.runs.now c.args.line) c.args.form.now c.check.ensures c.in_ok-check.was (λ h. omega (arith, runs-whole (goal.at.returns-then-form-length c).In_ok-check))
-
-pub table_of_contents-contents-requires : goal.table_of_contents-contents-requires
-table_of_contents-contents-requires c = omega (arith, runs-whole (goal.at.table_of_contents-contents-requires c).In_ok-check, in-range (goal.at.table_of_contents-contents-requires c).In_ok-check)
 
 pub returns : goal.returns
 returns c = let w = runs-whole (goal.at.returns c).In_ok-check in
