@@ -3,7 +3,7 @@ use Rattle.std.specs.Prelude.{ℕ, ◌+◌, ◌≤◌, ◌<◌, eqb, Bool, true,
 use Rattle.std.proofs.lemmas.Bool.{leb-true, leb-false, ltb-true, ltb-false}
 use Rattle.std.proofs.Math.Dec.{leb, ltb}
 use Rattle.std.proofs.lemmas.Result.{err_from_is_err_and}
-use Rattle.std.proofs.Common.{inl, inr, ⊎_elim, sym, subst, ◌∙◌, ap, ap₂, below_more, le_refl, arith}
+use Rattle.std.proofs.Common.{inl, inr, ⊎_elim, sym, ◌∙◌, ap, ap₂, below_more, le_refl, arith}
 use Rattle.std.proofs.Math.Decide.{dec_lt}
 use Rattle.answer.specs.Reply.{Reply, accepted, refused, number_of, place_of, replied}
 use Rattle.answer.specs.declared.Refusal.{Refusal}
@@ -96,13 +96,6 @@ found_some {good} {n} p e = let q = rw e at p in (q.first, q.inside)
 
 pub found_not : {good : ℕ → Type 0} {n : ℕ} {r : Option ℕ} → Finds good n r → r ≡ None → First good n n
 found_not p e = let q = rw e at p in q.first
-
--- a search that stops at a fault, and one that ends
-pub found_at : {good : ℕ → Type 0} {n k : ℕ} → Going good n k → k < n → (good k → ⊥) → Finds good n (Some k)
-found_at g l h = record { first = found_here g h; inside = l }
-
-pub found_nowhere : {good : ℕ → Type 0} {n k : ℕ} → Going good n k → n ≤ k → Finds good n None
-found_nowhere {good} {n} {k} g l = let e : k ≡ n = omega (arith, g.within) in record { first = subst (First good n) e (found_none g l); inside = tt }
 
 -- ---- the number and the place tell the refusal, and so the paper's reply tells what the code returns
 row_of : ℕ → ℕ → Refusal
