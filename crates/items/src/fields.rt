@@ -1,5 +1,5 @@
 // The fields that the lines of a text give, as the writer takes them.
-ghost use Rattle.std.specs.Prelude.{◌≤◌, length, IfOk, Some};
+ghost use Rattle.std.specs.Prelude.{◌≡◌, ℕ, ◌≤◌, ◌<◌, ◌≢◌, length, slice_index, IfOk, Some};
 ghost use Rattle.items.specs.Within.{Fits};
 ghost use Rattle.items.specs.Messages.{error_text};
 
@@ -90,9 +90,24 @@ impl SoFar {
     }
 }
 
-// A line without the line feed at its end, and the carriage return before it.
+// Where the line that begins at `at` ends: at the first line feed from there on, or else at the text's end.
+fn line_end(text: &[u8], at: usize) -> usize
+    requires { at ≤ length text.now }
+    ensures from { at ≤ result }
+    ensures within { result ≤ length text.now }
+    ensures before { (k : ℕ) → at ≤ k → k < result → slice_index text.now k ≢ 10 }
+    ensures found { result < length text.now → slice_index text.now result ≡ 10 }
+{
+    for i in at..text.len() {
+        if text[i] == b'\n' {
+            return i;
+        }
+    }
+    text.len()
+}
+
+// A line without the carriage return at its end.
 fn bare(line: &[u8]) -> &[u8] {
-    let line = line.strip_suffix(b"\n").unwrap_or(line);
     line.strip_suffix(b"\r").unwrap_or(line)
 }
 
@@ -111,10 +126,17 @@ pub fn gather<'a>(
         count: None,
     };
     let mut line = 1;
-    for bytes in text.split_inclusive(|b| *b == b'\n') {
-        so_far
-            .add(bare(bytes), places, runs)
-            .map_err(|wrong| TextError::Wrong { line, wrong })?;
+    let mut at = 0;
+    while at < text.len() {
+        let end = line_end(text, at);
+        let bytes = bare(&text[at..end]);
+        // An empty line says nothing.
+        if !bytes.is_empty() {
+            so_far
+                .add(bytes, places, runs)
+                .map_err(|wrong| TextError::Wrong { line, wrong })?;
+        }
+        at = end + 1;
         line += 1;
     }
     let Some(count) = so_far.count else {

@@ -1,10 +1,9 @@
 -- Each line takes a byte of the text at least, so that their number fits.
-use Rattle.std.proofs.Common.{◌+◌, ◌≤◌, length}
-use Rattle.std.specs.Slice.Iter.{split_inclusive_rest}
+use Rattle.std.proofs.Common.{◌+◌, ◌-◌, ◌≤◌, length}
 use Rattle.items.proofs.fields.gather.Given as goal
 
-abbrev pub invariant-loop-bytes : goal.invariant-loop-bytes
-invariant-loop-bytes l =
-    (goal.iterator-loop-bytes).can_next l.bytes-iterator ×
-    (goal.iterator-loop-bytes).is_finite l.bytes-iterator ×
-    (l.line + length (split_inclusive_rest l.bytes-iterator) ≤ length l.text + 1)
+abbrev pub invariant-loop-at : goal.invariant-loop-at
+invariant-loop-at l = (l.at ≤ length l.text + 1) × (l.line ≤ l.at + 1)
+
+abbrev pub decreases-loop-at : goal.decreases-loop-at
+decreases-loop-at l = (length l.text + 1) - l.at
