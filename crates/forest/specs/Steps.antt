@@ -52,13 +52,13 @@ pub inside : {places runs : List ℕ} {m : ℕ} → Fits places runs m → (stat
 inside f states r y z u (along p q) = omega (arith, f.other r u.0)
 inside f states r y z u (back p q) = omega (arith, f.one r u.0)
 
-pub grows_none : {o : Order} → Grows o (replicate 256 0) (replicate 256 0) (replicate 256 0) (replicate 256 1024) 0 0 0 0 0
-grows_none {o} = record {
+pub grows_none : {o : Order} {up via : List ℕ} → length up ≡ 256 → length via ≡ 256 → Grows o (replicate 256 0) (replicate 256 0) up via 0 0 0 0 0
+grows_none {o} a b = record {
   placed = record {
     orders = length-replicate {A = ℕ} 256 0;
     ranks = length-replicate {A = ℕ} 256 0;
-    ups = length-replicate {A = ℕ} 256 0;
-    vias = length-replicate {A = ℕ} 256 1024;
+    ups = a;
+    vias = b;
     counted = counts_zero (λ y l. omega (arith, zeros 256 y)) o.n;
     listed = λ y l p. absurd (omega (arith, zeros 256 y));
     ordered = λ k l. absurd (omega arith);
@@ -159,9 +159,9 @@ module _ {places runs : List ℕ} {m : ℕ} (fits : Fits places runs m) (states 
   grows_pass h = let (f, g) = candidate_none h in record { placed = k.placed; spread = k.spread; roots = roots_pass k.roots f g; begun = k.begun }
 
   -- or becomes a root
-  pub grows_root : c ≡ 0 → count ≤ now → {z : ℕ} → Candidate places rank i (Some z)
-      → Grows (order_at places runs states m) (set order count z) (set rank z (count + 1)) (set up z z) (set via z 1024) (count + 1) now x c (i + 1)
-  grows_root empty all {z} taken = record {
+  pub grows_root : c ≡ 0 → count ≤ now → {z w : ℕ} → m ≤ w → Candidate places rank i (Some z)
+      → Grows (order_at places runs states m) (set order count z) (set rank z (count + 1)) (set up z z) (set via z w) (count + 1) now x c (i + 1)
+  grows_root empty all {z} {w} root taken = record {
     placed = place_more k.placed fits.small t.0 t.1 arrives;
     spread = spread_root (inside fits states) links k.placed k.spread later empty;
     roots = roots_pass more (λ q s. here z (sym (t.2 q))) (λ y q f. here z (omega (arith, t.4 (omega arith))));
@@ -171,8 +171,8 @@ module _ {places runs : List ℕ} {m : ℕ} (fits : Fits places runs m) (states 
       t : (z < length places) × (at rank z ≡ 0) × (i < length places → z ≡ i) × (i < length places → at places z ≡ 1) × (length places ≤ i → length places + z ≡ i)
       t = candidate_taken taken
 
-      arrives : 1024 < m → Arrives (order_at places runs states m) rank z z 1024
-      arrives q = absurd (omega (arith, fits.few))
+      arrives : w < m → Arrives (order_at places runs states m) rank z z w
+      arrives q = absurd (omega arith)
 
       later : Later (order_at places runs states m) rank (set rank z (count + 1)) now
       later = record { either = λ y f. ⊎_elim inl (λ (_, g, h). inr (g, h)) (later_more k.placed fits.small t.0 t.1 arrives k.begun y) }
@@ -181,7 +181,7 @@ module _ {places runs : List ℕ} {m : ℕ} (fits : Fits places runs m) (states 
       here y f = subst (λ (j : ℕ). 0 < at (set rank z (count + 1)) j) (sym f) (omega (arith, get_or-set_same rank z (count + 1) 0 (omega (arith, t.0, k.placed.ranks, fits.small))))
 
       -- all that is there has been gone through, and so have the supplies
-      more : Roots (order_at places runs states m) (set rank z (count + 1)) (set via z 1024) i
+      more : Roots (order_at places runs states m) (set rank z (count + 1)) (set via z w) i
       more = roots_more (inside fits states) fits.small k.placed t.0 t.1 arrives k.roots (λ _. (
         λ r y v u d p. let (j, q) = leads_entry d in let f = inside fits states r v y u (leads_back d) in
             k.spread.spread y f p (omega (arith, (k.placed.listed y f p).1)) j r v u q (λ _. omega arith),

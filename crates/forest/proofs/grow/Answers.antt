@@ -1,4 +1,5 @@
 use Rattle.std.proofs.Common.{ℕ, ◌-◌, ◌/◌, ◌<◌, ◌≡◌, refl, subst, length, arith}
+use Rattle.std.proofs.lemmas.List.{length-replicate}
 use Rattle.forest.specs.Growing.{placed_most, placed_less}
 use Rattle.forest.specs.Links.{Entry, entry_leads, entry_one}
 use Rattle.forest.specs.Parts.{order_at}
@@ -8,7 +9,7 @@ use Rattle.forest.proofs.grow.Goals as goal
 use Rattle.forest.proofs.grow.Goals.{In-Some, In-loop-now, After-far-z, in-Some, in_default, then-forest-z-eq0, else-forest-z-eq0}
 
 pub loop-i-init : goal.loop-i-init
-loop-i-init c = (grows_none, omega arith)
+loop-i-init c = (grows_none (length-replicate {A = ℕ} 256 0) (length-replicate {A = ℕ} 256 1024), omega arith)
 
 -- a new root is a place, and there is room for it
 at_root : (c : In-Some) → (c.in-Some.z < length c.args.places.now) × (c.loop-i.count < length c.args.places.now)
@@ -22,7 +23,7 @@ overflow_add-count c = let t = at_root (goal.at.overflow_add-count c).In-Some in
 
 pub loop-now-init : goal.loop-now-init
 loop-now-init c = let g = c.loop-i.invariant in let l = c.link-chains.ensures c.args.places.now c.requires in elim c.match-candidate.branch [
-  | in-Some w ↦ rw (w.forest-is, w.count-is, w.put.ensures) (grows_root c.requires c.args.states.now l g.0 refl g.1 w.in-Some.ensures)
+  | in-Some w ↦ rw (w.forest-is, w.count-is, w.put.ensures) (grows_root c.requires c.args.states.now l g.0 refl g.1 c.requires.few w.in-Some.ensures)
   | in_default w ↦ rw (w.forest-is, w.count-is) (grows_pass c.requires c.args.states.now l g.0 w.in_default.ensures)
 ]
 
